@@ -1,0 +1,19 @@
+-- The lemmas that belong to no one function.
+pub mod IntegerOrder
+pub mod FractionSolver
+pub mod Order
+pub mod WholeFractions
+pub mod Inverse
+pub mod CrossMultiplication
+pub mod Bounds
+pub mod Near
+pub mod Quotients
+pub mod Roots
+pub mod Rounded
+pub mod RoundedQuotient
+pub mod RoundedRoot
+pub mod RoundedLimit
+pub mod RangeArithmetic
+pub mod Reflection
+pub mod Newton
+pub mod WorkedChecks

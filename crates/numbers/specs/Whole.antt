@@ -1,0 +1,36 @@
+-- Whole-number arithmetic as the step sheet writes it. Assumes nothing.
+use mathlib.Core.Bool.{cond}
+use Prim.Native.Nat.{ℕ, suc, _+_, _*_, _≤_, _<_}
+use lib.IntN.{ℤ, pos, negsuc, negℤ, _+ℤ_, _*ℤ_, natAbs}
+use lib.Signed.{ltZ, quotZ, shrZ}
+
+infixl 7 _÷↓_ _÷0_
+-- "Down": to the next lower whole number
+abbrev pub _÷↓_ : ℤ → ℤ → ℤ
+x ÷↓ pos k = shrZ x k
+x ÷↓ negsuc k = shrZ (negℤ x) (suc k)
+
+-- "÷0": drops the fraction toward zero
+abbrev pub _÷0_ : ℤ → ℤ → ℤ
+x ÷0 y = quotZ x y
+
+-- to the nearest whole number, halves up
+abbrev pub nearestQuotient : ℤ → ℤ → ℤ
+nearestQuotient x y = (pos 2 *ℤ x +ℤ y) ÷↓ (pos 2 *ℤ y)
+
+-- x without its sign
+abbrev pub absℤ : ℤ → ℤ
+absℤ x = pos (natAbs x)
+
+-- x, or the limit where x is below it
+abbrev pub at-leastℤ : ℤ → ℤ → ℤ
+at-leastℤ limit x = cond (ltZ x limit) limit x
+
+-- x, or the limit where x is above it
+abbrev pub at-mostℤ : ℤ → ℤ → ℤ
+at-mostℤ limit x = cond (ltZ limit x) limit x
+
+-- r is the whole square root of n, down
+pub record WholeRoot (n r : ℕ) : Type 0 where
+  pub low : r * r ≤ n
+  pub high : n < (r + 1) * (r + 1)
