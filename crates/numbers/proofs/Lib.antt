@@ -4,6 +4,9 @@ pub mod FractionSolver
 pub mod Order
 pub mod WholeFractions
 pub mod Inverse
+pub mod StrictOrder
+pub mod FractionPowers
+pub mod WholePowers
 pub mod CrossMultiplication
 pub mod Bounds
 pub mod Near
@@ -14,6 +17,8 @@ pub mod RoundedQuotient
 pub mod RoundedRoot
 pub mod RoundedLimit
 pub mod RangeArithmetic
+pub mod RangeTests
 pub mod Reflection
 pub mod Newton
+pub mod WholeRoots
 pub mod WorkedChecks

@@ -83,6 +83,17 @@ near-at-least {x} {X} {ε} {l} {m} t h k =
     from-gap (nonneg-add (nonneg-add (gap t) (gap h)) (above (error k)))
     (ringℚ 5 (λ x X e l m. x :- m := l :- (m :+ e) :+ (X :- l) :+ (x :- X :+ e)) tt x X ε l m)
 
+-- ---- the absolute value
+
+abs-at-most : {x X ε : ℚ} → Near x X ε → absℚ x ≤ℚ absℚ X +ℚ ε
+abs-at-most {x} {X} h = abs-bounded (near-bounded (bounded-abs X) h)
+
+pub near-absolute : {x X ε : ℚ} → Near x X ε → Near (absℚ x) (absℚ X) ε
+near-absolute {x} {X} {ε} h =
+    near refl
+    (bounded (gap (abs-at-most (near-sym h))) (ringℚ 3 (λ a b e. a :- b :+ e := a :+ e :- b) tt (absℚ x) (absℚ X) ε) (gap (abs-at-most h))
+    (ringℚ 3 (λ a b e. e :- (a :- b) := b :+ e :- a) tt (absℚ x) (absℚ X) ε))
+
 -- ---- a limit from below, or from above: of x and of X alike
 
 module _ {x X ε : ℚ} (l : ℚ) (h : Near x X ε) where

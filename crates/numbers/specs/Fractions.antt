@@ -72,6 +72,10 @@ pub record _≤ℚ_ (x y : ℚ) : Type 0 where
 pub record _<ℚ_ (x y : ℚ) : Type 0 where
   pub lt : T (not (nonneg (x -ℚ y)))
 
+-- the test x > y
+unfoldable pub aboveℚ : ℚ → ℚ → Bool
+aboveℚ x y = not (nonneg (y -ℚ x))
+
 unfoldable pub absℚ : ℚ → ℚ
 absℚ x = cond (nonneg x) x (-ℚ x)
 

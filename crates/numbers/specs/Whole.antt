@@ -1,6 +1,7 @@
 -- Whole-number arithmetic as the step sheet writes it. Assumes nothing.
 use mathlib.Core.Bool.{cond}
-use Prim.Native.Nat.{ℕ, suc, _+_, _*_, _≤_, _<_}
+use Prim.Native.Nat.{ℕ, zero, suc, _+_, _*_, _≤_, _<_}
+use lib.Dec.{leb}
 use lib.IntN.{ℤ, pos, negsuc, negℤ, _+ℤ_, _*ℤ_, natAbs}
 use lib.Signed.{ltZ, quotZ, shrZ}
 
@@ -30,7 +31,17 @@ at-leastℤ limit x = cond (ltZ x limit) limit x
 abbrev pub at-mostℤ : ℤ → ℤ → ℤ
 at-mostℤ limit x = cond (ltZ limit x) limit x
 
--- r is the whole square root of n, down
+-- the largest number up to k whose square is at most n
+unfoldable pub rootUpTo : ℕ → ℕ → ℕ
+rootUpTo n zero = zero
+rootUpTo n (suc k) = cond (leb (suc k * suc k) n) (suc k) (rootUpTo n k)
+
+-- the whole square root, down
+unfoldable pub wholeRoot : ℤ → ℤ
+wholeRoot (pos n) = pos (rootUpTo n n)
+wholeRoot (negsuc n) = pos 0
+
+-- what it is for r to be the whole square root of n, down
 pub record WholeRoot (n r : ℕ) : Type 0 where
   pub low : r * r ≤ n
   pub high : n < (r + 1) * (r + 1)

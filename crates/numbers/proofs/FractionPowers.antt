@@ -1,0 +1,47 @@
+-- Powers of fractions. Assumes nothing.
+use mathlib.Core.Path.{_≡_, refl, sym, _∙_, ap, ap₂, subst, subst₂}
+use Prim.Native.Nat.{ℕ, zero, suc, _^_, _<_, _*_}
+use native.Mathlib.Nat.{pow-zero, pow-suc}
+use Rattle.numbers.specs.Solver.{_:-_, _:*_, _:=_}
+use Rattle.numbers.specs.Ratios.{_over_}
+use Rattle.numbers.specs.Fractions.{ℚ, _*ℚ_, _^ℚ_, _≤ℚ_, _<ℚ_}
+use Rattle.numbers.proofs.FractionSolver.{ringℚ, _#_}
+use Rattle.numbers.proofs.Order.{NonNeg, nonneg-mul, nonneg-ratio, ≤ℚ-refl, *ℚ-at-least}
+use Rattle.numbers.proofs.WholeFractions.{nonneg-ℕ}
+use Rattle.numbers.proofs.StrictOrder.{whole, whole-mul, whole-below, positive-cancel, gap-positive, from-positive-gap}
+
+pub power-product : (x y : ℚ) (n : ℕ) → (x *ℚ y) ^ℚ n ≡ x ^ℚ n *ℚ y ^ℚ n
+power-product x y zero = ringℚ 0 (1 # 1 := 1 # 1 :* 1 # 1) tt
+power-product x y (suc n) =
+    ap (λ (z : ℚ). z *ℚ (x *ℚ y)) (power-product x y n)
+    ∙ ringℚ 4 (λ a b x y. a :* b :* (x :* y) := a :* x :* (b :* y)) tt (x ^ℚ n) (y ^ℚ n) x y
+
+pub whole-power : (u n : ℕ) → whole (u ^ n) ≡ whole u ^ℚ n
+whole-power u zero = ap (λ (k : ℕ). whole k) (pow-zero u)
+whole-power u (suc n) = ap (λ (k : ℕ). whole k) (pow-suc u n) ∙ whole-mul (u ^ n) u ∙ ap (λ (z : ℚ). z *ℚ whole u) (whole-power u n)
+
+pub power-nonneg : {x : ℚ} → NonNeg x → (n : ℕ) → NonNeg (x ^ℚ n)
+power-nonneg h zero = nonneg-ratio (1 over 1) tt
+power-nonneg h (suc n) = nonneg-mul (power-nonneg h n) h
+
+pub power-mono : {x y : ℚ} → NonNeg x → x ≤ℚ y → (n : ℕ) → x ^ℚ n ≤ℚ y ^ℚ n
+power-mono h l zero = ≤ℚ-refl (whole 1)
+power-mono h l (suc n) = *ℚ-at-least (power-nonneg h n) h (power-mono h l n) l
+
+-- the power of x = u/v, over the power of v
+power-over : (x : ℚ) (u v n : ℕ) → whole v *ℚ x ≡ whole u → whole (u ^ n) ≡ whole v ^ℚ n *ℚ x ^ℚ n
+power-over x u v n h = whole-power u n ∙ ap (λ (z : ℚ). z ^ℚ n) (sym h) ∙ power-product (whole v) x n
+
+-- (u/v)ᵐ < (a/b)ᵏ, by cross multiplication
+pub powers-below : (x y : ℚ) (u v a b m k : ℕ) → whole v *ℚ x ≡ whole u → whole b *ℚ y ≡ whole a →
+    u ^ m * b ^ k < a ^ k * v ^ m → x ^ℚ m <ℚ y ^ℚ k
+powers-below x y u v a b m k hx hy h =
+    let left : whole (u ^ m * b ^ k) ≡ whole v ^ℚ m *ℚ x ^ℚ m *ℚ whole b ^ℚ k =
+    whole-mul (u ^ m) (b ^ k) ∙ ap₂ _*ℚ_ (power-over x u v m hx) (whole-power b k) in
+    let right : whole (a ^ k * v ^ m) ≡ whole b ^ℚ k *ℚ y ^ℚ k *ℚ whole v ^ℚ m =
+    whole-mul (a ^ k) (v ^ m) ∙ ap₂ _*ℚ_ (power-over y a b k hy) (whole-power v m) in
+    from-positive-gap
+    (positive-cancel (nonneg-mul (power-nonneg (nonneg-ℕ v) m) (power-nonneg (nonneg-ℕ b) k))
+    (subst (λ z. whole 0 <ℚ z)
+    (ringℚ 4 (λ v x b y. b :* y :* v :- v :* x :* b := v :* b :* (y :- x)) tt (whole v ^ℚ m) (x ^ℚ m) (whole b ^ℚ k) (y ^ℚ k))
+    (gap-positive (subst₂ _<ℚ_ left right (whole-below h))))) refl

@@ -1,0 +1,113 @@
+-- The entries of the table of pressures: one computed test, in fixed point at 10²⁰, and what follows from it (`pressure-entry`). Powers stay
+-- symbols throughout. Assumes nothing.
+use mathlib.Core.Path.{_≡_, refl, sym, _∙_, ap, subst}
+use mathlib.Core.Logic.{⊎-elim}
+use mathlib.Core.Bool.{Bool, true, false, _&&_, cond}
+use mathlib.Core.List.{List}
+use Prim.Native.Nat.{ℕ, zero, suc, _+_, _*_, _-_, _^_, _≤_, _<_}
+use native.Mathlib.Nat.{mul-le-mul, mul-le-mul-right, pow-le-pow-left, lt-irrefl, lt-of-lt-of-le, lt-trans, eq-or-lt-of-le}
+use native.Mathlib.Omega.{arith}
+use lib.Dec.{T, ltb, ltb→lt, lt→ltb, lit<}
+use lib.IntN.{pos}
+use lib.ListN.{length, getD}
+use Rattle.numbers.specs.Solver.{_:+_, _:-_, _:*_, _:=_}
+use Rattle.numbers.specs.Ratios.{Ratio, _over_, _*ᴿ_, eqᴿ}
+use Rattle.numbers.specs.Ranges.{InRange, inRange}
+use Rattle.numbers.specs.Fractions.{ℚ, fraction, _+ℚ_, _*ℚ_, _-ℚ_}
+use Rattle.numbers.proofs.FractionSolver.{ringℚ, _#_}
+use Rattle.tables.specs.Tables.{pressureRatio, PressureEntry, pressureRange, Entry}
+use Rattle.tables.specs.Values.{first, ratioNumerator, ratioDenominator, seaLevel, pressureAt}
+use Rattle.numbers.proofs.StrictOrder.{whole, whole-mul, whole-odd, whole-sub, over-cancels}
+use Rattle.numbers.proofs.FractionPowers.{powers-below}
+use Rattle.numbers.proofs.RangeArithmetic.{both}
+use Rattle.numbers.proofs.RangeTests.{test-in-range}
+use Rattle.tables.proofs.Table.{every, entry-passes}
+use Rattle.tables.proofs.PowerTests.{NearestPower, powerTest, power-nearest}
+
+-- ---- the value: the first number that is not too small
+
+first-step : (f : ℕ → Bool) (k r x : ℕ) (b : Bool) → f k ≡ b → k ≤ r → T (f r) → ((j : ℕ) → j < r → T (f j) → ⊥) →
+    (suc k ≤ r → x ≡ r) → cond b k x ≡ r
+first-step f k r x true e l t below ih =
+    ⊎-elim (λ (q : k ≡ r). q) (λ (h : k < r). absurd (below k h (subst T (sym e) tt))) (eq-or-lt-of-le l)
+first-step f k r x false e l t below ih =
+    ⊎-elim (λ (q : k ≡ r). absurd (subst T (ap f (sym q) ∙ e) t)) ih (eq-or-lt-of-le l)
+
+first-is : (f : ℕ → Bool) (n k r : ℕ) → k ≤ r → r < k + n → T (f r) → ((j : ℕ) → j < r → T (f j) → ⊥) → first f n k ≡ r
+unfolding first
+first-is f zero k r l h t below = absurd (omega arith)
+first-is f (suc n) k r l h t below =
+    first-step f k r (first f n (suc k)) (f k) refl l t below (λ (g : suc k ≤ r). first-is f n (suc k) r g (omega arith) t below)
+
+module _ (scale a b k r : ℕ) (l : a ≤ b) (near : NearestPower scale a b k r) where
+  -- the power of a fraction of at most 1 is at most the scale
+  at-most-scale : ¬ (scale < r)
+  at-most-scale h =
+      let p : (2 * scale) ^ 1000 ≤ (2 * r - 1) ^ 1000 = pow-le-pow-left (omega arith) 1000 in
+      let q : a ^ k * (2 * scale) ^ 1000 ≤ (2 * r - 1) ^ 1000 * b ^ k = omega (arith, mul-le-mul p (pow-le-pow-left l k)) in
+      lt-irrefl _ (lt-of-lt-of-le (near .low) q)
+
+  first-nearest : first (λ (p : ℕ). ltb (a ^ k * (2 * scale) ^ 1000) ((2 * p + 1) ^ 1000 * b ^ k)) (suc scale) 0 ≡ r
+  first-nearest =
+      let top : ¬ (scale < r) = at-most-scale in
+      first-is (λ (p : ℕ). ltb (a ^ k * (2 * scale) ^ 1000) ((2 * p + 1) ^ 1000 * b ^ k)) (suc scale) 0 r (omega arith) (omega arith)
+      (lt→ltb _ _ (near .high))
+      (λ (j : ℕ) (h : j < r) (t : T (ltb (a ^ k * (2 * scale) ^ 1000) ((2 * j + 1) ^ 1000 * b ^ k))).
+      let up : (2 * j + 1) ^ 1000 ≤ (2 * r - 1) ^ 1000 = pow-le-pow-left (omega arith) 1000 in
+      lt-irrefl _ (lt-trans (lt-of-lt-of-le (ltb→lt _ _ t) (mul-le-mul-right (b ^ k) up)) (near .low)))
+
+-- ---- the rule, over fractions
+
+ratio-is : (e : ℕ) → e ≤ 3000 → whole ratioDenominator *ℚ pressureRatio e ≡ whole (ratioNumerator e)
+unfolding pressureRatio
+ratio-is e h =
+    over-cancels ratioDenominator _ tt _
+    ∙ sym (whole-sub {n = 13 * e} (omega arith) ∙ ap (λ (z : ℚ). whole ratioDenominator -ℚ z) (whole-mul 13 e))
+
+-- twice the scale times x units of the scale
+doubled : (k : Ratio) → T (eqᴿ ((seaLevel over 1) *ᴿ k) (1 over 1)) → (x : ℚ) → whole (2 * seaLevel) *ℚ (x *ℚ fraction k) ≡ whole 2 *ℚ x
+doubled k t x =
+    ap (λ (z : ℚ). z *ℚ (x *ℚ fraction k)) (whole-mul 2 seaLevel)
+    ∙ ringℚ 3 (λ s x k. 2 # 1 :* s :* (x :* k) := 2 # 1 :* (s :* (x :* k))) tt (whole seaLevel) x (fraction k)
+    ∙ ap (λ (z : ℚ). whole 2 *ℚ z) (over-cancels seaLevel k t x)
+
+half-less : (r : ℕ) → 1 ≤ r → whole 2 *ℚ (whole r -ℚ fraction (1 over 2)) ≡ whole (2 * r - 1)
+half-less r h =
+    ringℚ 1 (λ r. 2 # 1 :* (r :- 1 # 2) := 2 # 1 :* r :- 1 # 1) tt (whole r)
+    ∙ sym (whole-sub {n = 1} (omega arith) ∙ ap (λ (z : ℚ). z -ℚ whole 1) (whole-mul 2 r))
+
+half-more : (r : ℕ) → whole 2 *ℚ (whole r +ℚ fraction (1 over 2)) ≡ whole (2 * r + 1)
+half-more r =
+    ringℚ 1 (λ r. 2 # 1 :* (r :+ 1 # 2) := 2 # 1 :* r :+ 1 # 1) tt (whole r)
+    ∙ sym (whole-odd r)
+
+pressure-rule : (e r : ℕ) → e ≤ 3000 → 1 ≤ r → NearestPower seaLevel (ratioNumerator e) ratioDenominator 5257 r → PressureEntry e r
+pressure-rule e r h p near =
+    record {
+      low = powers-below _ _ (2 * r - 1) (2 * seaLevel) (ratioNumerator e) ratioDenominator 1000 5257
+          (doubled _ tt _ ∙ half-less r p) (ratio-is e h) (near .low);
+      high = powers-below _ _ (ratioNumerator e) ratioDenominator (2 * r + 1) (2 * seaLevel) 5257 1000
+          (ratio-is e h) (doubled _ tt _ ∙ half-more r) (near .high);
+    }
+
+-- ---- the table
+
+abbrev pub fixedTest : ℕ → ℕ → Bool
+fixedTest e r = powerTest 100000000000000000000 seaLevel (ratioNumerator e) ratioDenominator r
+
+unfoldable pub pressureTest : ℕ → ℕ → Bool
+pressureTest e r = inRange pressureRange (pos r) && fixedTest e r
+
+pub pressure-entry : (xs : List ℕ) → T (every pressureTest 0 xs) → (e : ℕ) → e ≤ 3000 → e < length xs →
+    Entry (pressureAt e) (PressureEntry e) pressureRange (getD xs e 0)
+unfolding pressureTest pressureAt
+pressure-entry xs test e l h =
+    let r : ℕ = getD xs e 0 in
+    let passed = both (inRange pressureRange (pos r)) (fixedTest e r) (entry-passes pressureTest 0 xs test e e (omega arith) h) in
+    let ranged : InRange pressureRange (pos r) = test-in-range pressureRange (pos r) (passed .0) in
+    let near = power-nearest _ seaLevel (ratioNumerator e) ratioDenominator r (lit< tt) (lit< tt) (omega arith) (lit< tt) (passed .1) in
+    record {
+      is-value = sym (first-nearest seaLevel (ratioNumerator e) ratioDenominator 5257 r (omega arith) near);
+      rule = pressure-rule e r l (omega (arith, ranged .bounds .0)) near;
+      in-range = ranged;
+    }

@@ -1,0 +1,31 @@
+-- `tables::aw` meets its contract: the rule of such a table, by a test at each of its entries that antt computes.
+-- The table is read off the function's own code. Assumes nothing.
+use borrow.Author.Needs.{needs}
+use lib.Dec.{eqb→eq}
+use Rattle.tables.specs.Tables.{awRange}
+use Rattle.tables.specs.Values.{sumTo, more, expSum, rounded, curveAt, bellSums, awBell}
+use Rattle.numbers.proofs.StrictOrder.{whole-times}
+use Rattle.tables.proofs.Curves.{entryTest}
+use Rattle.tables.proofs.Bells.{bell-entry}
+use Rattle.tables.proofs.aw.Statement.{statement}
+use Rattle.tables.proofs.aw.Tie as tie
+use Rattle.tables.proofs.aw.Reads as reads
+use Rattle.tables.proofs.aw.Lts as lts
+
+sub-result : tie.Need-sub-result
+sub-result c = search needs
+
+mul-result : tie.Need-mul-result
+mul-result c = search needs
+
+array-read-result : tie.Need-array-read-result
+array-read-result c = search needs
+
+returns : tie.Need-returns
+unfolding entryTest curveAt rounded bellSums expSum sumTo more
+returns c =
+    bell-entry awRange awBell _ _ _ _ (whole-times _ _ _ tt) (whole-times _ _ _ tt) (whole-times _ _ _ tt) (eqb→eq _ _ tt)
+    (lts.m2 reads.Pre reads.Post (c .args) (c .blocks) .1 .1 .0) tt (c .args .d) (search needs) (search needs)
+
+pub aw-spec : {M : Type 1} → statement M
+aw-spec = tie.close (tie.spec sub-result mul-result array-read-result returns)

@@ -1,0 +1,78 @@
+-- What each entry of the five constant tables is: the published formulas, in document 01's order. Assumes nothing.
+use mathlib.Core.Path.{_≡_}
+use Prim.Native.Nat.{ℕ}
+use lib.IntN.{pos}
+use Rattle.numbers.specs.Ranges.{Range, InRange, from_to_}
+use Rattle.numbers.specs.Fractions.{ℚ, fromℤ, _/ℚ_, _+ℚ_, _-ℚ_, _*ℚ_, _^ℚ_, _≤ℚ_, _<ℚ_}
+use Rattle.tables.specs.Series.{expTerm, sinTerm, NearestOfSeries}
+
+-- the unit of the four day tables
+abbrev pub billionth : ℚ
+billionth = 1 /ℚ 1000000000
+
+-- π, as far as the document knows it
+pub record IsPi (π : ℚ) : Type 0 where
+  pub low : 314159265358979 /ℚ 100000000000000 ≤ℚ π
+  pub high : π ≤ℚ 314159265358980 /ℚ 100000000000000
+
+-- d + 97.92 degrees, in radians
+unfoldable pub angle : ℚ → ℕ → ℚ
+angle π d = (fromℤ (pos d) +ℚ 9792 /ℚ 100) *ℚ (π *ℚ 1 /ℚ 180)
+
+-- albedo 0.29 + 0.06 sin(d + 97.92), in degrees, for every such π
+unfoldable pub AlbedoEntry : ℕ → ℕ → Type 0
+AlbedoEntry d r = (π : ℚ) → IsPi π → NearestOfSeries billionth r (λ s. 29 /ℚ 100 +ℚ 6 /ℚ 100 *ℚ s) (sinTerm (angle π d))
+
+-- r is nearest to base + scale · exp(-(factor · (d - centre))²)
+unfoldable pub BellEntry : ℚ → ℚ → ℚ → ℕ → ℕ → ℕ → Type 0
+BellEntry base scale factor centre d r =
+    NearestOfSeries billionth r (λ s. base +ℚ scale *ℚ s) (expTerm ((factor *ℚ (fromℤ (pos d) -ℚ fromℤ (pos centre))) ^ℚ 2))
+
+-- a1 = 0.26 + 0.1 exp(-(0.0154(d - 177))²)
+abbrev pub A1Entry : ℕ → ℕ → Type 0
+A1Entry = BellEntry (26 /ℚ 100) (1 /ℚ 10) (154 /ℚ 10000) 177
+
+-- aw = 0.4 + 1.4 exp(-((d - 173)/58)²)
+abbrev pub AwEntry : ℕ → ℕ → Type 0
+AwEntry = BellEntry (4 /ℚ 10) (14 /ℚ 10) (1 /ℚ 58) 173
+
+-- bw = 0.007 + 0.004 exp(-((d - 243)/80)²)
+abbrev pub BwEntry : ℕ → ℕ → Type 0
+BwEntry = BellEntry (7 /ℚ 1000) (4 /ℚ 1000) (1 /ℚ 80) 243
+
+-- in kPa, a tenth of a pascal
+abbrev pub tenthPascal : ℚ
+tenthPascal = 1 /ℚ 10000
+
+-- (576,000 - 13E)/576,000
+unfoldable pub pressureRatio : ℕ → ℚ
+pressureRatio e = (576000 /ℚ 1 -ℚ 13 /ℚ 1 *ℚ fromℤ (pos e)) *ℚ 1 /ℚ 576000
+
+-- Pressure at E metres, in tenths of a pascal: 1,013,000 × ((576,000 - 13E)/576,000)^5.257. The 5.257 power is the number whose thousandth power
+-- is the ratio's 5,257th; it lies between (r - ½)/1,013,000 and (r + ½)/1,013,000.
+pub record PressureEntry (e r : ℕ) : Type 0 where
+  pub low : ((fromℤ (pos r) -ℚ 1 /ℚ 2) *ℚ 1 /ℚ 1013000) ^ℚ 1000 <ℚ pressureRatio e ^ℚ 5257
+  pub high : pressureRatio e ^ℚ 5257 <ℚ ((fromℤ (pos r) +ℚ 1 /ℚ 2) *ℚ 1 /ℚ 1013000) ^ℚ 1000
+
+-- ---- what a lookup ensures
+
+-- r is the table's value at its index, meets the table's rule there, and is in the table's range
+pub record Entry (value : ℕ) (Rule : ℕ → Type 0) (range : Range) (r : ℕ) : Type 0 where
+  pub is-value : r ≡ value
+  pub rule : Rule r
+  pub in-range : InRange range (pos r)
+
+abbrev pub albedoRange : Range
+albedoRange = from 230000000 to 350000000
+
+abbrev pub a1Range : Range
+a1Range = from 260000000 to 360000000
+
+abbrev pub awRange : Range
+awRange = from 400000000 to 1800000000
+
+abbrev pub bwRange : Range
+bwRange = from 7000000 to 11000000
+
+abbrev pub pressureRange : Range
+pressureRange = from 700000 to 1013000
