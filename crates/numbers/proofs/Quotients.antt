@@ -1,7 +1,7 @@
 -- The three whole quotients of the step sheet lie as near to the exact one as specs/Rounding.antt says: each leaves a remainder that is
 -- bounded by the divisor. Assumes nothing.
 use mathlib.Core.Path.{_≡_, sym, _∙_, ap}
-use Prim.Native.Nat.{ℕ, zero, suc, _+_, _*_, _/_, _%_, _<_, zero-le}
+use Prim.Native.Nat.{ℕ, zero, suc, _+_, _*_, _/_, _%_, _<_, zero-le, suc-le-suc}
 use native.Mathlib.Nat.{div-add-mod', mod-lt, le-of-lt, mul-pos}
 use native.Mathlib.Numerals.{add-one}
 use lib.Dec.{ltb→lt, lt→ltb, le→leb, lit<}
@@ -10,12 +10,12 @@ use lib.Signed.{_≤ℤ_, _<ℤ_}
 use Rattle.numbers.specs.Whole.{_÷↓_, _÷0_, nearestQuotient}
 use Rattle.numbers.specs.Solver.{con, _:+_, _:-_, _:*_, :-_, _:=_}
 use Rattle.numbers.specs.IntegerSolver.{ringℤ}
-use Rattle.numbers.specs.Ratios.{_over_}
-use Rattle.numbers.specs.Fractions.{ℚ, fraction, fromℤ, _/ℚ_, _+ℚ_, _*ℚ_, -ℚ_, _-ℚ_, inverse, _÷ℚ_, _<ℚ_, Near}
+use Rattle.numbers.specs.Ratios.{_over_, -ᴿ_}
+use Rattle.numbers.specs.Fractions.{ℚ, fraction, fromℤ, _/ℚ_, _+ℚ_, _*ℚ_, -ℚ_, _-ℚ_, inverse, _÷ℚ_, _<ℚ_, Near, _≤ℚ_}
 use Rattle.numbers.specs.Rounding.{Rounds, downError, towardZeroError, nearestError}
 use Rattle.numbers.proofs.IntegerOrder.{nonneg-addℤ, gapℤ, from-gapℤ}
 use Rattle.numbers.proofs.FractionSolver.{ringℚ, from-multipleℚ, _#_}
-use Rattle.numbers.proofs.Order.{nonneg-mul, nonneg-ratio, gap, from-gap, ≤ℚ-trans, ≤ℚ-eq, <ℚ-≤ℚ-trans, <ℚ-ratio}
+use Rattle.numbers.proofs.Order.{nonneg-mul, nonneg-ratio, gap, from-gap, ≤ℚ-trans, ≤ℚ-eq, <ℚ-≤ℚ-trans, <ℚ-ratio, nonneg-add, <ℚ-irrefl}
 use Rattle.numbers.proofs.WholeFractions.{fromℤ-add, fromℤ-mul, fromℤ-neg, fromℤ-mono}
 use Rattle.numbers.proofs.Inverse.{*ℚ-inverse, nonneg-inverse-of}
 use Rattle.numbers.proofs.Bounds.{Bounded, bounded, bounded-scale, bounded-weaken}
@@ -156,3 +156,36 @@ twice-above (negsuc k) h = absurd (h .lt)
 pub rounds-nearest : Rounds nearestQuotient nearestError
 rounds-nearest z w h =
     near-of-half z w (nearestQuotient z w) h (down-divided (pos 2 *ℤ z +ℤ w) (pos 2 *ℤ w) (twice-above w h))
+
+-- ---- the sign of the nearest: a whole number within one half of what is not above 0 is not above 0 either, and so from below
+
+not-above-half : (q : ℤ) → fromℤ q ≤ℚ 1 /ℚ 2 → q ≤ℤ pos 0
+not-above-half (pos zero) h = record { le = tt }
+not-above-half (pos (suc n)) h =
+    absurd
+    (<ℚ-irrefl
+    (<ℚ-≤ℚ-trans (<ℚ-ratio (1 over 2) tt)
+    (from-gap (nonneg-add (gap h) (gap (fromℤ-mono {a = pos 1} {b = pos (suc n)} (record { le = le→leb 1 (suc n) (suc-le-suc zero-le) }))))
+    (ringℚ 1 (λ n. 0 # 1 :- 1 # 2 := 1 # 2 :- n :+ (n :- 1 # 1)) tt (fromℤ (pos (suc n)))))))
+not-above-half (negsuc n) h = record { le = tt }
+
+not-below-half : (q : ℤ) → -ℚ (1 /ℚ 2) ≤ℚ fromℤ q → pos 0 ≤ℤ q
+not-below-half (pos n) h = record { le = le→leb 0 n zero-le }
+not-below-half (negsuc n) h =
+    absurd
+    (<ℚ-irrefl
+    (<ℚ-≤ℚ-trans (<ℚ-ratio (1 over 2) tt)
+    (from-gap (nonneg-add (gap h) (gap (fromℤ-mono {a = negsuc n} {b = negsuc 0} (record { le = le→leb 0 n zero-le }))))
+    (ringℚ 1 (λ q. 0 # 1 :- 1 # 2 := q :- :- 1 # 2 :+ (con (-ᴿ (1 over 1)) :- q)) tt (fromℤ (negsuc n))))))
+
+pub nearest-not-above : (z w : ℤ) → pos 0 <ℤ w → z ≤ℤ pos 0 → nearestQuotient z w ≤ℤ pos 0
+nearest-not-above z w hw hz =
+    not-above-half (nearestQuotient z w)
+    (from-gap (nonneg-add (gap (rounds-nearest z w hw .high)) (nonneg-mul (gap (fromℤ-mono hz)) (nonneg-inverse-of (fromℤ-above hw))))
+    (ringℚ 3 (λ q z i. 1 # 2 :- q := 1 # 2 :- (q :- z :* i) :+ (0 # 1 :- z) :* i) tt (fromℤ (nearestQuotient z w)) (fromℤ z) (inverse (fromℤ w))))
+
+pub nearest-not-below : (z w : ℤ) → pos 0 <ℤ w → pos 0 ≤ℤ z → pos 0 ≤ℤ nearestQuotient z w
+nearest-not-below z w hw hz =
+    not-below-half (nearestQuotient z w)
+    (from-gap (nonneg-add (gap (rounds-nearest z w hw .low)) (nonneg-mul (gap (fromℤ-mono hz)) (nonneg-inverse-of (fromℤ-above hw))))
+    (ringℚ 3 (λ q z i. q :- :- 1 # 2 := q :- z :* i :- :- 1 # 2 :+ (z :- 0 # 1) :* i) tt (fromℤ (nearestQuotient z w)) (fromℤ z) (inverse (fromℤ w))))

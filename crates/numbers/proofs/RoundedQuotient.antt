@@ -19,7 +19,7 @@ use Rattle.numbers.proofs.Quotients.{fromℤ-above}
 use Rattle.numbers.proofs.Rounded.{Rounded}
 
 -- a divisor whose value is above 0 is above 0
-divisor-above : (w : ℤ) (v : Ratio) → T (nonnegᴿ v) → fromℤ (pos 0) <ℚ fromℤ w *ℚ fraction v → pos 0 <ℤ w
+pub divisor-above : (w : ℤ) (v : Ratio) → T (nonnegᴿ v) → fromℤ (pos 0) <ℚ fromℤ w *ℚ fraction v → pos 0 <ℤ w
 divisor-above (pos zero) v hv h =
     absurd (<ℚ-irrefl (<ℚ-≤ℚ-trans h (≤ℚ-eq (ringℚ 1 (λ v. 0 # 1 :* v := 0 # 1) tt (fraction v)))))
 divisor-above (pos (suc k)) v hv h = record { lt = lt→ltb 0 (suc k) (suc-le-suc zero-le) }

@@ -9,3 +9,4 @@ pub mod Bells
 pub mod Arcs
 pub mod PowerTests
 pub mod PressureEntries
+pub mod ValueRanges

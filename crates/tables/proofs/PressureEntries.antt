@@ -98,16 +98,23 @@ fixedTest e r = powerTest 100000000000000000000 seaLevel (ratioNumerator e) rati
 unfoldable pub pressureTest : ℕ → ℕ → Bool
 pressureTest e r = inRange pressureRange (pos r) && fixedTest e r
 
+-- an entry that passes is nearest, and is the value
+pressure-nearest : (e r : ℕ) → e ≤ 3000 → T (fixedTest e r) → NearestPower seaLevel (ratioNumerator e) ratioDenominator 5257 r
+pressure-nearest e r l t = power-nearest _ seaLevel (ratioNumerator e) ratioDenominator r (lit< tt) (lit< tt) (omega arith) (lit< tt) t
+
+pub pressure-is : (e r : ℕ) → e ≤ 3000 → T (fixedTest e r) → r ≡ pressureAt e
+unfolding pressureAt
+pressure-is e r l t = sym (first-nearest seaLevel (ratioNumerator e) ratioDenominator 5257 r (omega arith) (pressure-nearest e r l t))
+
 pub pressure-entry : (xs : List ℕ) → T (every pressureTest 0 xs) → (e : ℕ) → e ≤ 3000 → e < length xs →
     Entry (pressureAt e) (PressureEntry e) pressureRange (getD xs e 0)
-unfolding pressureTest pressureAt
+unfolding pressureTest
 pressure-entry xs test e l h =
     let r : ℕ = getD xs e 0 in
     let passed = both (inRange pressureRange (pos r)) (fixedTest e r) (entry-passes pressureTest 0 xs test e e (omega arith) h) in
     let ranged : InRange pressureRange (pos r) = test-in-range pressureRange (pos r) (passed .0) in
-    let near = power-nearest _ seaLevel (ratioNumerator e) ratioDenominator r (lit< tt) (lit< tt) (omega arith) (lit< tt) (passed .1) in
     record {
-      is-value = sym (first-nearest seaLevel (ratioNumerator e) ratioDenominator 5257 r (omega arith) near);
-      rule = pressure-rule e r l (omega (arith, ranged .bounds .0)) near;
+      is-value = pressure-is e r l (passed .1);
+      rule = pressure-rule e r l (omega (arith, ranged .bounds .0)) (pressure-nearest e r l (passed .1));
       in-range = ranged;
     }
