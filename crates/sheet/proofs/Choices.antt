@@ -1,0 +1,50 @@
+-- What a test on signed numbers tells in its two branches: which arm of a `cond` is meant, and the range that is left. Assumes nothing.
+use mathlib.Core.Path.{_≡_, refl, ap}
+use mathlib.Core.Bool.{Bool, true, false, cond}
+use Prim.Native.Nat.{ℕ, suc}
+use native.Mathlib.Omega.{arith}
+use lib.IntN.{ℤ, pos, negsuc, _-ℤ_, +ℤ-idl}
+use lib.Signed.{ltZ, leZ}
+use mir.Syntax.{w64}
+use mir.Val.{ofZ}
+use borrow.Author.Tests.{ltb-true, ltb-false, leb-false}
+use Rattle.numbers.specs.Whole.{absℤ}
+use Rattle.numbers.specs.Ranges.{InRange, from_to_, minus_to_}
+
+-- the machine tests a and b, which are a′ and b′
+module _ (test : ℤ → ℤ → Bool) {a a′ b b′ : ℤ} (p : a ≡ a′) (q : b ≡ b′) (x y : ℤ) where
+  pub taken : test a b ≡ true → x ≡ cond (test a′ b′) x y
+  taken e = rw (← p, ← q, e)
+
+  pub left : test a b ≡ false → y ≡ cond (test a′ b′) x y
+  left e = rw (← p, ← q, e)
+
+pub absolute-below : (x : ℤ) → ltZ x (pos 0) ≡ true → pos 0 -ℤ x ≡ absℤ x
+absolute-below (pos n) e = absurd (omega (arith, ltb-true n 0 e))
+absolute-below (negsuc n) e = +ℤ-idl (pos (suc n))
+
+pub absolute-not-below : (x : ℤ) → ltZ x (pos 0) ≡ false → x ≡ absℤ x
+absolute-not-below (pos n) e = refl
+absolute-not-below (negsuc n) e = let z : _≡_ {A = ℕ} 0 1 = cc in absurd (omega arith)
+
+-- a test on the bits of a number that is not below 0
+pub is-zero : {b : ℕ} {z : ℤ} → InRange (from 0 to b) z → ofZ w64 z ≡ 0 → z ≡ pos 0
+is-zero {z = pos n} p e = ap pos e
+is-zero {z = negsuc n} p e = absurd (p .bounds)
+
+pub is-some : {b : ℕ} {z : ℤ} → InRange (from 0 to b) z → (ofZ w64 z ≡ 0 → ⊥) → InRange (from 1 to b) z
+is-some {z = pos n} p e = omega arith
+is-some {z = negsuc n} p e = absurd (p .bounds)
+
+pub positive-in : {a b : ℕ} {z : ℤ} → InRange (minus a to b) z → leZ z (pos 0) ≡ false → InRange (from 1 to b) z
+positive-in {z = pos n} p e = omega (arith, leb-false n 0 e)
+positive-in {z = negsuc n} p e = let q : _≡_ {A = ℕ} 0 1 = cc in absurd (omega arith)
+
+pub at-most-in : {a b k : ℕ} {z : ℤ} → InRange (from a to b) z → ltZ (pos k) z ≡ false → InRange (from a to k) z
+at-most-in {k = k} {z = pos n} p e = omega (arith, ltb-false k n e)
+at-most-in {z = negsuc n} p e = absurd (p .bounds)
+
+pub at-least-in : {a b x y : ℕ} {l z : ℤ} → InRange (from a to b) l → InRange (minus x to y) z → ltZ z l ≡ false → InRange (from a to y) z
+at-least-in {l = pos l} {z = pos n} p r e = omega (arith, ltb-false n l e)
+at-least-in {l = pos l} {z = negsuc n} p r e = let q : _≡_ {A = ℕ} 0 1 = cc in absurd (omega arith)
+at-least-in {l = negsuc l} p r e = absurd (p .bounds)

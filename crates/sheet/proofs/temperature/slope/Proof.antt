@@ -1,0 +1,39 @@
+-- `sheet::temperature::slope` meets its contract: each step, as an expression, is safe in the ranges required. Assumes nothing.
+use mathlib.Core.List.{[], _∷_}
+use Rattle.numbers.proofs.Reflection.{MachineExpression, arg, lit, _-ᵐ_, _*ᵐ_, _÷↓ᵐ_, Given, none, _and_, fits, divides, equal-in}
+use Rattle.sheet.specs.Quantities as quantities
+use Rattle.sheet.specs.StepSheet.{U, V2, V4, V6, V7, D}
+use Rattle.sheet.proofs.Powers.{u, v2, v4, v6, v7}
+use Rattle.sheet.proofs.temperature.slope.Statement.{statement}
+use Rattle.sheet.proofs.temperature.slope.Tie as tie
+
+abbrev m : MachineExpression
+m = arg 0
+
+abbrev d : MachineExpression
+d = (v7 m ÷↓ᵐ lit 5) -ᵐ lit 116_000
+
+given : (c : tie.Start) → Given (quantities.temperature ∷ []) (c .args .m ∷ [])
+given c = c .pre and none
+
+returns : tie.Need-returns
+unfolding U V2 V4 V6 V7 D
+returns c = equal-in (given c) d quantities.slope tt
+
+pub slope-spec : {M : Type 1} → statement M
+slope-spec =
+    tie.close
+    (tie.spec
+    (λ c. fits (given c) (lit 41 *ᵐ m) tt)
+    (λ c. fits (given c) (u m) tt)
+    (λ c. fits (given c) (u m *ᵐ u m) tt)
+    (λ c. divides (given c) (u m *ᵐ u m) (lit 10) tt)
+    (λ c. fits (given c) (v2 m *ᵐ v2 m) tt)
+    (λ c. divides (given c) (v2 m *ᵐ v2 m) (lit 1_000_000_000) tt)
+    (λ c. fits (given c) (v4 m *ᵐ v2 m) tt)
+    (λ c. divides (given c) (v4 m *ᵐ v2 m) (lit 1_000_000_000) tt)
+    (λ c. fits (given c) (v6 m *ᵐ u m) tt)
+    (λ c. divides (given c) (v6 m *ᵐ u m) (lit 100_000) tt)
+    (λ c. divides (given c) (v7 m) (lit 5) tt)
+    (λ c. fits (given c) d tt)
+    returns)
