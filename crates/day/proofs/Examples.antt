@@ -1,0 +1,223 @@
+-- Values worked by hand. `marked` is one table of every value that document 01 marks to be proved. `days` are two days worked through: the one of
+-- the document's log that gets a figure, and a summer day at the same station. Both are answered, so what `judged-within-bound` asks can be met.
+-- Assumes nothing.
+use mathlib.Core.Path.{_≡_, refl, sym, _∙_, ap, ap₂, subst}
+use mathlib.Core.Bool.{Bool, false, cond}
+use mathlib.Core.List.{List, [], _∷_, map}
+use Prim.Native.Nat.{ℕ}
+use lib.Dec.{lit<, lit≤}
+use lib.IntN.{ℤ, pos, negsuc, natAbs, _-ℤ_, _*ℤ_}
+use Rattle.numbers.specs.Whole.{_÷↓_, wholeRoot, WholeRoot}
+use Rattle.numbers.proofs.WholeRoots.{root-is}
+use Rattle.tables.specs.Values.{sumTo, more, expSum, sinSum, rounded, curveAt, arcSum, arcSums, bellSums, a1At, awAt, bwAt, pressureAt}
+use Rattle.tables.proofs.PowerTests.{powerTest, upper, lower, tenthUp, tenthDown}
+use Rattle.tables.proofs.PressureEntries.{pressure-is}
+use Rattle.sheet.specs.declared.Readings.{Readings}
+use Rattle.sheet.specs.declared.Entries.{Entries}
+use Rattle.sheet.specs.declared.Earlier.{Earlier as SheetEarlier}
+use Rattle.sheet.specs.Parts.{weighed}
+use Rattle.sheet.specs.StepSheet as sheet
+use Rattle.day.specs.Means.{sumOf}
+use Rattle.day.specs.Calendar.{yearLength, isDate}
+use Rattle.day.specs.Rules.{anyOf, numberOf}
+use Rattle.day.specs.Judgement.{readingsOf, entriesOf, clearOf, meansOf, earlierOf, figureOf, holds, judged, Answered}
+use Rattle.day.specs.Bound.{WithinBound, SignedConstants}
+use Rattle.day.specs.declared.Station.{Station}
+use Rattle.day.specs.declared.Day.{Day}
+use Rattle.day.specs.declared.Mean.the-variants.{Present, Absent}
+use Rattle.day.specs.declared.Earlier.{Earlier}
+use Rattle.day.specs.declared.Refusal.{Refusal}
+use Rattle.day.specs.declared.Refusal.the-variants.{StationField, BadDate, Missing, OutOfRange, OutOfOrder, AboveClear, SumBelowOne}
+use Rattle.day.specs.declared.Verdict.the-variants.{Figure}
+use Rattle.day.proofs.Tests.{AllFalse, all-false}
+use Rattle.day.proofs.DayBound.{answered-figure, within-bound}
+
+-- ---- the marked values
+
+-- what a line or a table gives, and what is written
+infix 2 _gives_
+data Row : Type 0 where
+  _gives_ : ℤ → ℤ → Row
+
+abbrev given : Row → ℤ
+given (x gives y) = x
+
+abbrev written : Row → ℤ
+written (x gives y) = y
+
+-- the station's clear day at d = 180, and one of 500 cal/cm²/d
+abbrev clearDay : ℤ
+clearDay = sheet.Q (pos 100) (sheet.clearSum (pos 154) (pos 1_760) (pos 614) (negsuc 395) (pos 590) (pos 180))
+
+abbrev evenDay : ℤ
+evenDay = pos 500_000_000_000
+
+-- the number of the refusal that holds of a reading on the even day, 0 for none
+abbrev refusal : ℤ → ℤ
+refusal s = cond (sheet.aboveTwiceClear s evenDay) (pos (numberOf AboveClear)) (pos 0)
+
+abbrev rest : List Row
+rest =
+    (pos (a1At 177) gives pos 360_000_000)
+    ∷ (pos (awAt 173) gives pos 1_800_000_000)
+    ∷ (pos (bwAt 243) gives pos 11_000_000)
+    ∷ (sheet.U (pos 320) gives pos 80_720)
+    ∷ (sheet.V8 (pos 320) gives pos 180_239_188)
+    ∷ (sheet.e (pos 320) gives pos 611_728_285)
+    ∷ (sheet.D (pos 320) gives pos 44_541_876)
+    ∷ (sheet.N (pos 320) gives pos 245_844)
+    ∷ (sheet.M (pos 320) gives pos 15_006_000)
+    ∷ (sheet.M (pos 500) gives pos 14_864_340)
+    ∷ (sheet.g (pos 1_013_000) (sheet.M (pos 320)) gives pos 65_444_240)
+    ∷ (clearDay gives pos 770_046_400_000)
+    ∷ (sheet.K (pos 5_390) clearDay gives (pos 1_017 *ℤ sheet.ρ (pos 5_390) clearDay ÷↓ pos 1_000) -ℤ pos 60_000_000)
+    ∷ (sheet.K (pos 5_391) clearDay gives (pos 1_126 *ℤ sheet.ρ (pos 5_391) clearDay ÷↓ pos 1_000) -ℤ pos 70_000_000)
+    ∷ (sheet.K (pos 3_500) evenDay gives pos 651_900_000)
+    ∷ (sheet.K (pos 3_501) evenDay gives pos 718_425_200)
+    ∷ (refusal (pos 10_000) gives pos 0)
+    ∷ (refusal (pos 10_001) gives pos 10)
+    ∷ []
+
+-- the pressure's value is a search and is not computed: its row stands first
+abbrev table : List Row
+table = (pos (pressureAt 0) gives pos 1_013_000) ∷ rest
+
+sea-level : 1_013_000 ≡ pressureAt 0
+unfolding powerTest upper lower tenthUp tenthDown
+sea-level = pressure-is 0 1_013_000 (lit≤ tt) tt
+
+marked : map given table ≡ map written table
+unfolding curveAt rounded bellSums expSum sumTo more sheet.U sheet.V2 sheet.V4 sheet.V6 sheet.V7 sheet.V8 sheet.e sheet.D sheet.M sheet.g sheet.clearSum sheet.Q sheet.aboveTwiceClear sheet.ρ sheet.K sheet.N
+marked = ap (λ (p : ℕ). pos p ∷ map written rest) (sym sea-level)
+
+-- ---- a day worked through: the pressure and the root are searches too, so both are put in as numbers
+
+-- the sheet's figure, of the root too
+abbrev figureWith : Readings → Entries → SheetEarlier → ℤ → ℤ → ℤ
+figureWith x t earlier q root =
+    weighed (x .mean) (t .p)
+    (sheet.H (sheet.Rn (t .albedo) (x .radiation) (sheet.Rb (sheet.emittance (t .a1) root) (sheet.B (x .maximum) (x .minimum)) (sheet.K (x .radiation) q)))
+    (sheet.soilHeat (x .mean) (earlier .k) (earlier .z)))
+    (sheet.drying x t)
+
+root-at : (f : ℤ) (n root : ℕ) → pos 10_000_000 *ℤ sheet.e f ≡ pos n → WholeRoot n root → sheet.r (sheet.e f) ≡ pos root
+unfolding sheet.r
+root-at f n root is h = ap wholeRoot is ∙ sym (root-is n root h)
+
+-- what is shown of a day: it is answered, with the figure n, and n is within the bound
+pub record Worked (st : Station) (day : Day) (earlier : Earlier) (n : ℕ) : Type 0 where
+  pub answered : Answered st day earlier
+  pub verdict : judged st day earlier ≡ Figure n
+  pub bound : WithinBound st day earlier n
+
+module _ (st : Station) (day : Day) (earlier : Earlier) (t : Entries) (entries-are : entriesOf st day ≡ t) where
+  figure-with : (root : ℤ) → sheet.r (sheet.e (day .dewpoint)) ≡ root →
+      figureOf st day earlier ≡ natAbs (figureWith (readingsOf day) t (earlierOf earlier) (clearOf st day) root)
+  unfolding figureOf readingsOf sheet.figure sheet.heat
+  figure-with root is =
+      ap₂ (λ (t : Entries) (root : ℤ). natAbs (figureWith (readingsOf day) t (earlierOf earlier) (clearOf st day) root)) entries-are is
+
+  -- the tests of the refusals in their order
+  abbrev tests : List Bool
+  tests =
+      holds StationField st day earlier
+      ∷ holds BadDate st day earlier
+      ∷ holds Missing st day earlier
+      ∷ holds OutOfRange st day earlier
+      ∷ holds OutOfOrder st day earlier
+      ∷ holds AboveClear st day earlier
+      ∷ sheet.sumBelowOne (readingsOf day) t
+      ∷ []
+
+  by-refusal : AllFalse tests → (r : Refusal) → holds r st day earlier ≡ false
+  unfolding holds
+  by-refusal h StationField = h .0
+  by-refusal h BadDate = h .1 .0
+  by-refusal h Missing = h .1 .1 .0
+  by-refusal h OutOfRange = h .1 .1 .1 .0
+  by-refusal h OutOfOrder = h .1 .1 .1 .1 .0
+  by-refusal h AboveClear = h .1 .1 .1 .1 .1 .0
+  by-refusal h SumBelowOne = ap (sheet.sumBelowOne (readingsOf day)) entries-are ∙ h .1 .1 .1 .1 .1 .1 .0
+
+  answered-by : anyOf tests ≡ false → Answered st day earlier
+  unfolding Answered
+  answered-by e = by-refusal (all-false tests e)
+
+  -- both by computation: none of the refusals holds, and the figure is n
+  worked : SignedConstants st → {root : ℤ} → sheet.r (sheet.e (day .dewpoint)) ≡ root → anyOf tests ≡ false → {n : ℕ} →
+      natAbs (figureWith (readingsOf day) t (earlierOf earlier) (clearOf st day) root) ≡ n → Worked st day earlier n
+  worked constants {root} is none {n} same =
+      let answered = answered-by none in
+      let figure : figureOf st day earlier ≡ n = figure-with root is ∙ same in
+      record {
+        answered = answered;
+        verdict = answered-figure st day earlier answered ∙ ap Figure figure;
+        bound = subst (WithinBound st day earlier) figure (within-bound st day earlier constants answered);
+      }
+
+-- the station of document 01's log: LIDW
+abbrev station : Station
+station =
+    record {
+      code = record { first = 76; second = 73; third = 68; fourth = 87 };
+      c1 = pos 154;
+      c2 = pos 1_760;
+      c3 = pos 614;
+      c4 = negsuc 395;
+      c5 = pos 590;
+      minimum = 100;
+      elevation = 497;
+    }
+
+constants : SignedConstants station
+constants =
+    record {
+      c1 = record { bounds = lit≤ tt };
+      c2 = record { bounds = lit≤ tt };
+      c3 = record { bounds = lit≤ tt };
+      c4 = record { bounds = lit< tt };
+      c5 = record { bounds = lit≤ tt };
+    }
+
+pressure : 954_675 ≡ pressureAt 497
+unfolding powerTest upper lower tenthUp tenthDown
+pressure = pressure-is 497 954_675 (lit≤ tt) tt
+
+-- the log's day 12 of 2008: all temperatures 32 °F, no radiation, no wind, after two days of 20 °F
+abbrev winterDay : Day
+winterDay = record { year = 2008; d = 12; maximum = pos 320; minimum = pos 320; mean = pos 320; dewpoint = pos 320; radiation = pos 0; wind = pos 0 }
+
+abbrev winterMeans : Earlier
+winterMeans = record { one = Present (pos 200); two = Present (pos 200); three = Absent }
+
+-- a day whose figure is above 0
+abbrev summerDay : Day
+summerDay = record { year = 2008; d = 180; maximum = pos 900; minimum = pos 550; mean = pos 720; dewpoint = pos 500; radiation = pos 7_000; wind = pos 1_000 }
+
+abbrev summerMeans : Earlier
+summerMeans = record { one = Present (pos 710); two = Present (pos 700); three = Absent }
+
+-- the entries at the two days
+abbrev winterEntries : ℕ → Entries
+winterEntries p = record { albedo = pos 346_410_155; a1 = pos 260_157_000; aw = pos 400_630_537; bw = pos 7_000_957; p = pos p }
+
+abbrev summerEntries : ℕ → Entries
+summerEntries p = record { albedo = pos 230_572_314; a1 = pos 359_786_784; aw = pos 1_779_755_409; bw = pos 9_151_442; p = pos p }
+
+entries : (entriesOf station winterDay ≡ winterEntries 954_675) × (entriesOf station summerDay ≡ summerEntries 954_675)
+unfolding entriesOf curveAt rounded arcSum arcSums sinSum bellSums expSum sumTo more
+entries = (ap winterEntries (sym pressure), ap summerEntries (sym pressure))
+
+roots : (sheet.r (sheet.e (pos 320)) ≡ pos 78_213_060) × (sheet.r (sheet.e (pos 500)) ≡ pos 110_868_765)
+unfolding sheet.U sheet.V2 sheet.V4 sheet.V8 sheet.e
+roots = (
+  root-at (pos 320) 6_117_282_850_000_000 78_213_060 refl (record { low = lit≤ tt; high = lit< tt }),
+  root-at (pos 500) 12_291_883_230_000_000 110_868_765 refl (record { low = lit≤ tt; high = lit< tt }),
+)
+
+pub days : Worked station winterDay winterMeans 0 × Worked station summerDay summerMeans 3_518
+unfolding holds isDate yearLength readingsOf clearOf meansOf earlierOf sumOf sheet.clearSum sheet.Q sheet.aboveTwiceClear sheet.sumBelowOne sheet.U sheet.V2 sheet.V4 sheet.V6 sheet.V7 sheet.V8 sheet.e sheet.D sheet.M sheet.g sheet.w1 sheet.w2 sheet.ρ sheet.K sheet.N sheet.fourthPower sheet.B sheet.emittance sheet.Rb sheet.S sheet.Rn sheet.soilHeat sheet.H sheet.countedWind sheet.Wf sheet.«V» sheet.T sheet.drying sheet.A sheet.Figure
+days = (
+  worked station winterDay winterMeans (winterEntries 954_675) (entries .0) constants (roots .0) refl refl,
+  worked station summerDay summerMeans (summerEntries 954_675) (entries .1) constants (roots .1) refl refl,
+)

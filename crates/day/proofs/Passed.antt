@@ -1,0 +1,113 @@
+-- What a station and a day that passed their tests are known to be: each number in its range, and so what the sheet is worked from. Assumes
+-- nothing.
+use mathlib.Core.Path.{_≡_, refl, subst}
+use mathlib.Core.List.{List, [], _∷_}
+use mathlib.Core.Bool.{Bool, true, false, not, cond}
+use Prim.Native.Nat.{ℕ, _≤_, _%_}
+use native.Mathlib.Nat.{le-trans}
+use native.Mathlib.Omega.{arith}
+use borrow.Author.Tests.{ltb-false}
+use lib.Dec.{T, ltb, leb, leb→le, eqb}
+use Rattle.numbers.specs.Ranges.{Range, InRange}
+use Rattle.sheet.specs.Quantities as quantities
+use Rattle.sheet.specs.Accepted.{ReadingsInRange, EntriesInRange}
+use Rattle.tables.proofs.ValueRanges.{albedo-in, a1-in, aw-in, bw-in, pressure-in}
+use Rattle.day.specs.Calendar.{yearLength, isDate}
+use Rattle.day.specs.Rules.{anyOf, stationFaults, readingFaults, meanFault}
+use Rattle.day.specs.Judgement.{readingsOf, entriesOf, holds}
+use Rattle.day.specs.declared.Station.{Station}
+use Rattle.day.specs.declared.Day.{Day}
+use Rattle.day.specs.declared.Earlier.{Earlier}
+use Rattle.day.specs.declared.Refusal.the-variants.{StationField, BadDate, OutOfRange}
+use Rattle.day.proofs.Tests.{AllFalse, all-false, passed}
+
+-- ---- the station
+
+module _ (st : Station) (day : Day) (earlier : Earlier) (accepted : holds StationField st day earlier ≡ false) where
+  station-passed : AllFalse (stationFaults (st .code .first) (st .code .second) (st .code .third) (st .code .fourth) (st .minimum) (st .elevation))
+  unfolding holds
+  station-passed = all-false (stationFaults (st .code .first) (st .code .second) (st .code .third) (st .code .fourth) (st .minimum) (st .elevation)) accepted
+
+  pub minimum-low : 50 ≤ st .minimum
+  minimum-low = ltb-false (st .minimum) 50 (station-passed .1 .1 .1 .1 .0)
+
+  pub minimum-high : st .minimum ≤ 200
+  minimum-high = ltb-false 200 (st .minimum) (station-passed .1 .1 .1 .1 .1 .0)
+
+  pub elevation-high : st .elevation ≤ 3000
+  elevation-high = ltb-false 3000 (st .elevation) (station-passed .1 .1 .1 .1 .1 .1 .0)
+
+-- ---- the date
+
+year-length-at-most : (y : ℕ) → yearLength y ≤ 366
+unfolding yearLength
+year-length-at-most y = chosen (eqb (y % 400) 0) (eqb (y % 100) 0) (eqb (y % 4) 0)
+  where
+    chosen : (a b c : Bool) → cond a 366 (cond b 365 (cond c 366 365)) ≤ 366
+    chosen true b c = omega arith
+    chosen false true c = omega arith
+    chosen false false true = omega arith
+    chosen false false false = omega arith
+
+module _ (st : Station) (day : Day) (earlier : Earlier) (accepted : holds BadDate st day earlier ≡ false) where
+  day-passed : (ltb (day .d) 1 ≡ false) × T (leb (day .d) (yearLength (day .year)))
+  unfolding holds isDate
+  day-passed = tests (ltb (day .year) 1950) (ltb 2099 (day .year)) (ltb (day .d) 1) (leb (day .d) (yearLength (day .year))) accepted
+    where
+      tests : (a b c d : Bool) → not (cond a false (cond b false (cond c false d))) ≡ false → (c ≡ false) × T d
+      tests true b c d e = absurd (subst T e tt)
+      tests false true c d e = absurd (subst T e tt)
+      tests false false true d e = absurd (subst T e tt)
+      tests false false false true e = (refl, tt)
+      tests false false false false e = absurd (subst T e tt)
+
+  pub day-low : 1 ≤ day .d
+  day-low = ltb-false (day .d) 1 (day-passed .0)
+
+  pub day-high : day .d ≤ 366
+  day-high = le-trans (leb→le (day .d) (yearLength (day .year)) (day-passed .1)) (year-length-at-most (day .year))
+
+-- ---- the readings and the earlier means
+
+module _ (st : Station) (day : Day) (earlier : Earlier) (accepted : holds OutOfRange st day earlier ≡ false) where
+  abbrev faults : List Bool
+  faults = readingFaults (day .maximum) (day .minimum) (day .mean) (day .dewpoint) (day .radiation) (day .wind)
+
+  all-passed : AllFalse (anyOf faults ∷ meanFault (earlier .one) ∷ meanFault (earlier .two) ∷ meanFault (earlier .three) ∷ [])
+  unfolding holds
+  all-passed = all-false (anyOf faults ∷ meanFault (earlier .one) ∷ meanFault (earlier .two) ∷ meanFault (earlier .three) ∷ []) accepted
+
+  pub one-passed : meanFault (earlier .one) ≡ false
+  one-passed = all-passed .1 .0
+
+  pub two-passed : meanFault (earlier .two) ≡ false
+  two-passed = all-passed .1 .1 .0
+
+  pub three-passed : meanFault (earlier .three) ≡ false
+  three-passed = all-passed .1 .1 .1 .0
+
+  pub readings-in : ReadingsInRange (readingsOf day)
+  unfolding readingsOf
+  readings-in =
+      let each = all-false faults (all-passed .0) in
+      record {
+        maximum = passed quantities.temperature (each .0);
+        minimum = passed quantities.temperature (each .1 .0);
+        mean = passed quantities.temperature (each .1 .1 .0);
+        dewpoint = passed quantities.temperature (each .1 .1 .1 .0);
+        radiation = passed quantities.radiation (each .1 .1 .1 .1 .0);
+        wind = passed quantities.wind (each .1 .1 .1 .1 .1 .0);
+      }
+
+-- ---- the tables' entries
+
+pub entries-in : (st : Station) (day : Day) → 1 ≤ day .d → day .d ≤ 366 → st .elevation ≤ 3000 → EntriesInRange (entriesOf st day)
+unfolding entriesOf
+entries-in st day low high elevation =
+    record {
+      albedo = albedo-in (day .d) low high;
+      a1 = a1-in (day .d) low high;
+      aw = aw-in (day .d) low high;
+      bw = bw-in (day .d) low high;
+      p = pressure-in (st .elevation) elevation;
+    }

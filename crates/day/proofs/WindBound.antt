@@ -1,0 +1,80 @@
+-- The wind factor, the vapour pressure deficit and the drying term T of the sheet against the equation. Assumes nothing.
+use mathlib.Core.Path.{_≡_, refl, sym, ap, subst}
+use mathlib.Core.Bool.{Bool, true, false, cond}
+use lib.Dec.{T}
+use lib.IntN.{ℤ, pos, _+ℤ_, _*ℤ_, *ℤ-comm}
+use lib.Signed.{_≤ℤ_}
+use Rattle.numbers.specs.Whole.{_÷↓_, _÷0_}
+use Rattle.numbers.specs.Solver.{con, _:+_, _:-_, _:*_, _:=_}
+use Rattle.numbers.specs.IntegerSolver.{ringℤ}
+use Rattle.numbers.specs.Ratios.{_over_}
+use Rattle.numbers.specs.Fractions.{ℚ, fromℤ, _/ℚ_, _+ℚ_, _-ℚ_, _*ℚ_, _÷ℚ_, nonneg, _≤ℚ_, at-mostℚ}
+use Rattle.numbers.proofs.FractionSolver.{ringℚ, _#_}
+use Rattle.numbers.proofs.Order.{NonNeg, nonneg-add, nonneg-mul, nonneg-ratio, nonneg-of, gap, from-gap, ≤ℚ-refl}
+use Rattle.numbers.proofs.WholeFractions.{fromℤ-mono}
+use Rattle.numbers.proofs.Bounds.{Bounded, bounded-ratio, bounded-eq, bounded-nonneg, bounded-sub}
+use Rattle.numbers.proofs.Quotients.{rounds-down, rounds-toward-zero}
+use Rattle.numbers.proofs.Rounded.{Rounded, weaken, in-unit, of-value, of-whole, sized, in-range, sum, difference, product, scaled, divided, portion}
+use Rattle.numbers.proofs.RoundedLimit.{limited-above}
+use Rattle.sheet.specs.StepSheet as sheet
+use Rattle.day.specs.Equation as equation
+use Rattle.day.specs.Means.{tenths}
+use Rattle.day.proofs.Units.{billionths, tenMillionths}
+use Rattle.day.proofs.WeightsBound.{nonneg-above}
+use Rattle.day.proofs.RadiationBound.{half-is}
+
+-- a limit from above of a number that is not below 0
+limit-bounded : (l x : ℚ) → NonNeg l → NonNeg x → Bounded (at-mostℚ l x) l
+unfolding at-mostℚ
+limit-bounded l x nl nx = by-test (nonneg (l -ℚ x)) refl
+  where
+    by-test : (b : Bool) → nonneg (l -ℚ x) ≡ b → Bounded (cond b x l) l
+    by-test true p = bounded-nonneg nx (record { le = subst T (sym p) tt })
+    by-test false p = bounded-nonneg nl (≤ℚ-refl l)
+
+-- the wind run that counts: at most 1,500 tenths, 150 miles
+pub u-rounded : (w : ℤ) → pos 0 ≤ℤ w → w ≤ℤ pos 9999 → Rounded (sheet.countedWind w) (1 over 10) (equation.u (tenths w)) (150 over 1) (0 over 1)
+unfolding sheet.countedWind equation.u
+u-rounded w lo hi =
+    sized (150 over 1)
+    (limit-bounded (150 /ℚ 1) (tenths w) (nonneg-ratio (150 over 1) tt) (nonneg-mul (nonneg-of (fromℤ-mono lo)) (nonneg-ratio (1 over 10) tt)))
+    (of-value (ap (λ (l : ℚ). at-mostℚ l (tenths w)) limit-is)
+    (limited-above (pos 1500) tt (bounded-eq limit-is (bounded-ratio (150 over 1) (9999 over 10) tt tt))
+    (in-range w (pos 0) (pos 9999) (1 over 10) (9999 over 10) lo hi tt tt tt)))
+  where
+    limit-is : fromℤ (pos 1500) *ℚ 1 /ℚ 10 ≡ 150 /ℚ 1
+    limit-is = ringℚ 0 (1500 # 1 :* 1 # 10 := 150 # 1) tt
+
+pub Wf-rounded : {aw bw w : ℤ} {Aw Bw u : ℚ} → Rounded aw billionths Aw (1801 over 1000) (1 over 2000000000) → Rounded bw billionths Bw (111 over 10000) (1 over 2000000000) → Rounded w (1 over 10) u (150 over 1) (0 over 1) →
+    Rounded (sheet.Wf aw bw w) billionths (Aw +ℚ 16093 /ℚ 10000 *ℚ Bw *ℚ u) (45 over 10) (123 over 1000000000)
+unfolding sheet.Wf
+Wf-rounded {aw = aw} {bw = bw} {w = w} {Aw = Aw} {Bw = Bw} {u = u} ha hb hw =
+    of-whole (ap (λ (z : ℤ). aw +ℤ (z ÷↓ pos 100000)) (ringℤ 2 (λ b w. con (pos 16093) :* (b :* w) := b :* (con (pos 16093) :* w)) tt bw w))
+    (of-value (ringℚ 3 (λ a b u. a :+ 10 # 1 :* (1 # 100000 :* (16093 # 1 :* (b :* u))) := a :+ 16093 # 10000 :* b :* u) tt Aw Bw u)
+    (weaken tt tt tt (sum ha (in-unit billionths tt (scaled (10 over 1) tt (portion rounds-down 16093 100000 tt tt (product hb hw)))))))
+
+-- the vapour pressures lie between 0.087 and 15.2 kPa, so their difference is no larger
+pub V-rounded : {ex en ea : ℤ} {X N A : ℚ} → Rounded ex billionths X (152 over 10) (62 over 1000000000) → Rounded en billionths N (152 over 10) (62 over 1000000000) → Rounded ea billionths A (152 over 10) (62 over 1000000000) →
+    87 /ℚ 1000 ≤ℚ X → 87 /ℚ 1000 ≤ℚ N → 87 /ℚ 1000 ≤ℚ A → Rounded (sheet.«V» ex en ea) billionths ((X +ℚ N) ÷ℚ 2 /ℚ 1 -ℚ A) (152 over 10) (125 over 1000000000)
+unfolding sheet.«V»
+V-rounded {X = X} {N = N} {A = A} hx hn ha lx ln la =
+    of-value (ap (λ (h : ℚ). h -ℚ A) (sym (half-is (X +ℚ N))))
+    (weaken tt tt tt
+    (sized (152 over 10)
+    (bounded-sub (nonneg-mul (nonneg-add (above-zero lx) (above-zero ln)) (nonneg-ratio (1 over 2) tt))
+    (from-gap (nonneg-mul (nonneg-add (gap (hx .size .high)) (gap (hn .size .high))) (nonneg-ratio (1 over 2) tt))
+    (ringℚ 2 (λ x n. 152 # 10 :- (x :+ n) :* 1 # 2 := (152 # 10 :- x :+ (152 # 10 :- n)) :* 1 # 2) tt X N))
+    (above-zero la) (ha .size .high))
+    (of-value (ringℚ 3 (λ x n a. 1 # 2 :* (x :+ n) :- a := (x :+ n) :* 1 # 2 :- a) tt X N A)
+    (difference (in-unit billionths tt (scaled (1 over 2) tt (divided rounds-down 2 tt tt (sum hx hn)))) ha))))
+  where
+    above-zero : {x : ℚ} → 87 /ℚ 1000 ≤ℚ x → NonNeg x
+    above-zero h = nonneg-above (nonneg-ratio (87 over 1000) tt) h
+
+pub T-rounded : {v wf : ℤ} {V′ W : ℚ} → Rounded v billionths V′ (152 over 10) (125 over 1000000000) → Rounded wf billionths W (45 over 10) (123 over 1000000000) →
+    Rounded (sheet.T v wf) tenMillionths (643 /ℚ 100 *ℚ W *ℚ V′) (440 over 1) (196 over 10000000)
+unfolding sheet.T
+T-rounded {v = v} {wf = wf} {V′ = V′} {W = W} hv hw =
+    of-whole (ap (λ (z : ℤ). z ÷0 pos 100) (*ℤ-comm (pos 643) (((v ÷0 pos 100) *ℤ wf) ÷0 pos 1000000000)))
+    (of-value (ringℚ 2 (λ v w. 1 # 100 :* (643 # 1 :* (v :* w)) := 643 # 100 :* w :* v) tt V′ W)
+    (weaken tt tt tt (portion rounds-toward-zero 643 100 tt tt (divided rounds-toward-zero 1000000000 tt tt (product (divided rounds-toward-zero 100 tt tt hv) hw)))))

@@ -1,0 +1,77 @@
+-- Demand 3 for a day handed in alone: an answered day gets a figure within 6/100,000 of an inch of the unrounded equation. Assumes nothing.
+use mathlib.Core.List.{map}
+use mathlib.Core.Path.{_≡_}
+use Prim.Native.Nat.{ℕ}
+use lib.IntN.{pos}
+use Rattle.numbers.specs.Ranges.{InRange}
+use Rattle.numbers.specs.Fractions.{ℚ, fromℤ, _/ℚ_, _-ℚ_, _*ℚ_, _≤ℚ_, absℚ}
+use Rattle.numbers.specs.Rounding.{RootOf}
+use Rattle.tables.specs.Series.{HalfUnit}
+use Rattle.tables.specs.Tables.{billionth, tenthPascal}
+use Rattle.tables.specs.Values.{albedoAt, a1At, awAt, bwAt, pressureAt}
+use Rattle.sheet.specs.Quantities as quantities
+use Rattle.day.specs.Equation.{Inputs, value}
+use Rattle.day.specs.Equation as equation
+use Rattle.day.specs.Means.{tenths}
+use Rattle.day.specs.Judgement.{meansOf, Answered}
+use Rattle.day.specs.declared.Station.{Station}
+use Rattle.day.specs.declared.Day.{Day}
+use Rattle.day.specs.declared.Earlier.{Earlier}
+use Rattle.day.specs.declared.Verdict.{Verdict}
+use Rattle.day.specs.declared.Verdict.the-variants.{Figure}
+
+-- what the equation is fed: the readings in °F, cal and miles, the station's fields in their units, the earlier means present, the values behind
+-- the tables' entries, and x
+unfoldable pub inputsOf : Station → Day → Earlier → ℚ → ℚ → ℚ → ℚ → ℚ → ℚ → Inputs
+inputsOf st day earlier α a1 aw bw P x =
+    record {
+      d = fromℤ (pos (day .d));
+      maximum = tenths (day .maximum);
+      minimum = tenths (day .minimum);
+      mean = tenths (day .mean);
+      dewPoint = tenths (day .dewpoint);
+      radiation = tenths (day .radiation);
+      wind = tenths (day .wind);
+      c1 = fromℤ (st .c1);
+      c2 = fromℤ (st .c2) *ℚ 1 /ℚ 1000;
+      c3 = fromℤ (st .c3) *ℚ 1 /ℚ 10000;
+      c4 = fromℤ (st .c4) *ℚ 1 /ℚ 1000000;
+      c5 = fromℤ (st .c5) *ℚ 1 /ℚ 1000000000;
+      clearMinimum = fromℤ (pos (st .minimum));
+      earlier = map tenths (meansOf earlier);
+      α = α;
+      a1 = a1;
+      aw = aw;
+      bw = bw;
+      P = P;
+      x = x;
+    }
+
+-- The figure n differs from the equation's value by at most 6/100,000 of an inch: for all fractions within half a unit of the entries at `d` and
+-- E, ends included and all at once, and every x between two neighbouring multiples of 10⁻⁸ whose squares have the equation's own ea between them.
+unfoldable pub WithinBound : Station → Day → Earlier → ℕ → Type 0
+WithinBound st day earlier n =
+    (α a1 aw bw P x : ℚ) →
+    HalfUnit billionth (albedoAt (day .d)) α →
+    HalfUnit billionth (a1At (day .d)) a1 →
+    HalfUnit billionth (awAt (day .d)) aw →
+    HalfUnit billionth (bwAt (day .d)) bw →
+    HalfUnit tenthPascal (pressureAt (st .elevation)) P →
+    RootOf (1 /ℚ 100000000) (equation.e (tenths (day .dewpoint))) x →
+    absℚ (fromℤ (pos n) *ℚ 1 /ℚ 10000 -ℚ value (inputsOf st day earlier α a1 aw bw P x)) ≤ℚ 6 /ℚ 100000
+
+-- c1 to c5 are signed numbers of two bytes, any of them
+pub record SignedConstants (st : Station) : Type 0 where
+  pub c1 : InRange quantities.signedWord (st .c1)
+  pub c2 : InRange quantities.signedWord (st .c2)
+  pub c3 : InRange quantities.signedWord (st .c3)
+  pub c4 : InRange quantities.signedWord (st .c4)
+  pub c5 : InRange quantities.signedWord (st .c5)
+
+-- what is owed to an answered day: a figure and no refusal, within the bound
+unfoldable pub FigureOwed : Station → Day → Earlier → Verdict → Type 0
+FigureOwed st day earlier verdict = Answered st day earlier → (n : ℕ) × (verdict ≡ Figure n) × WithinBound st day earlier n
+
+-- the demand, over any judge of days
+unfoldable pub JudgesWithinBound : (Station → Day → Earlier → Verdict) → Type 0
+JudgesWithinBound judge = (st : Station) (day : Day) (earlier : Earlier) → SignedConstants st → FigureOwed st day earlier (judge st day earlier)

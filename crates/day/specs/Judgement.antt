@@ -1,0 +1,110 @@
+-- One day judged: what the step sheet is worked from, when each refusal holds, and the verdict. Assumes nothing.
+use mathlib.Core.Bool.{Bool, false, not, cond}
+use mathlib.Core.List.{List, [], _∷_}
+use mathlib.Core.Path.{_≡_}
+use Prim.Native.Nat.{ℕ}
+use lib.IntN.{ℤ, pos, natAbs}
+use lib.ListN.{length}
+use Rattle.tables.specs.Values.{albedoAt, a1At, awAt, bwAt, pressureAt}
+use Rattle.sheet.specs.StepSheet as sheet
+use Rattle.sheet.specs.declared.Readings.{Readings}
+use Rattle.sheet.specs.declared.Entries.{Entries}
+use Rattle.sheet.specs.declared.Earlier.{Earlier as SheetEarlier}
+use Rattle.day.specs.Calendar.{isDate}
+use Rattle.day.specs.Rules.{anyOf, stationFaults, missingMarks, readingFaults, meanFault, orderFaults}
+use Rattle.day.specs.Means.{sumOf}
+use Rattle.day.specs.declared.Station.{Station}
+use Rattle.day.specs.declared.Day.{Day}
+use Rattle.day.specs.declared.Mean.{Mean}
+use Rattle.day.specs.declared.Mean.the-variants.{Present, Absent}
+use Rattle.day.specs.declared.Earlier.{Earlier}
+use Rattle.day.specs.declared.Refusal.{Refusal}
+use Rattle.day.specs.declared.Refusal.the-variants.{StationField, BadDate, Missing, OutOfRange, OutOfOrder, AboveClear, SumBelowOne}
+use Rattle.day.specs.declared.Verdict.{Verdict}
+use Rattle.day.specs.declared.Verdict.the-variants.{Figure, Refused}
+
+-- ---- what the sheet is worked from
+
+unfoldable pub readingsOf : Day → Readings
+readingsOf x =
+    record {
+      maximum = x .maximum;
+      minimum = x .minimum;
+      mean = x .mean;
+      dewpoint = x .dewpoint;
+      radiation = x .radiation;
+      wind = x .wind;
+    }
+
+-- the tables' entries at `d` and at the elevation
+unfoldable pub entriesOf : Station → Day → Entries
+entriesOf st x =
+    record {
+      albedo = pos (albedoAt (x .d));
+      a1 = pos (a1At (x .d));
+      aw = pos (awAt (x .d));
+      bw = pos (bwAt (x .d));
+      p = pos (pressureAt (st .elevation));
+    }
+
+-- the clear-day radiation Q
+unfoldable pub clearOf : Station → Day → ℤ
+clearOf st x =
+    sheet.Q (pos (st .minimum)) (sheet.clearSum (st .c1) (st .c2) (st .c3) (st .c4) (st .c5) (pos (x .d)))
+
+-- the earlier means that are present
+abbrev pub withMean : Mean → List ℤ → List ℤ
+withMean (Present f) fs = f ∷ fs
+withMean Absent fs = fs
+
+unfoldable pub meansOf : Earlier → List ℤ
+meansOf earlier = withMean (earlier .one) (withMean (earlier .two) (withMean (earlier .three) []))
+
+-- their number and their sum
+unfoldable pub earlierOf : Earlier → SheetEarlier
+earlierOf earlier = record { k = pos (length (meansOf earlier)); z = sumOf (meansOf earlier) }
+
+-- one mean's part in them
+abbrev pub countOf : Mean → ℤ
+countOf (Present f) = pos 1
+countOf Absent = pos 0
+
+abbrev pub tenthsOf : Mean → ℤ
+tenthsOf (Present f) = f
+tenthsOf Absent = pos 0
+
+unfoldable pub figureOf : Station → Day → Earlier → ℕ
+figureOf st x earlier = natAbs (sheet.figure (readingsOf x) (entriesOf st x) (earlierOf earlier) (clearOf st x))
+
+-- ---- when each refusal holds
+
+unfoldable pub holds : Refusal → Station → Day → Earlier → Bool
+holds StationField st x earlier =
+    anyOf (stationFaults (st .code .first) (st .code .second) (st .code .third) (st .code .fourth) (st .minimum) (st .elevation))
+holds BadDate st x earlier = not (isDate (x .year) (x .d))
+holds Missing st x earlier = anyOf (missingMarks (x .maximum) (x .minimum) (x .mean) (x .dewpoint) (x .radiation) (x .wind))
+holds OutOfRange st x earlier =
+    anyOf
+    (anyOf (readingFaults (x .maximum) (x .minimum) (x .mean) (x .dewpoint) (x .radiation) (x .wind))
+    ∷ meanFault (earlier .one)
+    ∷ meanFault (earlier .two)
+    ∷ meanFault (earlier .three)
+    ∷ [])
+holds OutOfOrder st x earlier = anyOf (orderFaults (x .maximum) (x .minimum) (x .mean) (x .dewpoint))
+holds AboveClear st x earlier = sheet.aboveTwiceClear (x .radiation) (clearOf st x)
+holds SumBelowOne st x earlier = sheet.sumBelowOne (readingsOf x) (entriesOf st x)
+
+-- "It returns its figure or the first of 3, 6 (calendar only), 7, 8, 9, 10, 11, in that order."
+abbrev pub inOrder : List Refusal
+inOrder = StationField ∷ BadDate ∷ Missing ∷ OutOfRange ∷ OutOfOrder ∷ AboveClear ∷ SumBelowOne ∷ []
+
+abbrev pub firstOf : List Refusal → (Refusal → Bool) → Verdict → Verdict
+firstOf [] held verdict = verdict
+firstOf (r ∷ rs) held verdict = cond (held r) (Refused r) (firstOf rs held verdict)
+
+unfoldable pub judged : Station → Day → Earlier → Verdict
+judged st x earlier = firstOf inOrder (λ r. holds r st x earlier) (Figure (figureOf st x earlier))
+
+-- Answered: none of the refusals holds
+unfoldable pub Answered : Station → Day → Earlier → Type 0
+Answered st x earlier = (r : Refusal) → holds r st x earlier ≡ false

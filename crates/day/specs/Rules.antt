@@ -1,0 +1,70 @@
+-- The rules of one day: when each refusal holds, in document 01's order and with its numbers. Assumes nothing.
+use mathlib.Core.Bool.{Bool, true, false, not, cond, _||_}
+use mathlib.Core.List.{List, [], _∷_}
+use Prim.Native.Nat.{ℕ}
+use lib.Dec.{ltb}
+use lib.IntN.{ℤ, negsuc}
+use lib.Signed.{ltZ, leZ}
+use Rattle.numbers.specs.Ranges.{inRange}
+use Rattle.sheet.specs.Quantities as quantities
+use Rattle.day.specs.declared.Mean.{Mean}
+use Rattle.day.specs.declared.Mean.the-variants.{Present, Absent}
+use Rattle.day.specs.declared.Refusal.{Refusal}
+use Rattle.day.specs.declared.Refusal.the-variants.{StationField, BadDate, Missing, OutOfRange, OutOfOrder, AboveClear, SumBelowOne}
+
+-- the document's number of each refusal
+abbrev pub numberOf : Refusal → ℕ
+numberOf StationField = 3
+numberOf BadDate = 6
+numberOf Missing = 7
+numberOf OutOfRange = 8
+numberOf OutOfOrder = 9
+numberOf AboveClear = 10
+numberOf SumBelowOne = 11
+
+-- one of the tests holds
+abbrev pub anyOf : List Bool → Bool
+anyOf [] = false
+anyOf (b ∷ bs) = cond b true (anyOf bs)
+
+-- 3: a station field out of range. Code: four capitals A to Z. Minimum: 50 to 200. Elevation: 0 to 3,000. c1 to c5: any.
+abbrev pub notCapital : ℕ → Bool
+notCapital x = ltb x 65 || ltb 90 x
+
+abbrev pub stationFaults : ℕ → ℕ → ℕ → ℕ → ℕ → ℕ → List Bool
+stationFaults first second third fourth minimum elevation =
+    notCapital first
+    ∷ notCapital second
+    ∷ notCapital third
+    ∷ notCapital fourth
+    ∷ ltb minimum 50
+    ∷ ltb 200 minimum
+    ∷ ltb 3000 elevation
+    ∷ []
+
+-- 7: any of the six readings missing. The value -32,768, the least of the readings' type, means missing.
+abbrev pub isMissing : ℤ → Bool
+isMissing f = leZ f (negsuc 32767)
+
+abbrev pub missingMarks : ℤ → ℤ → ℤ → ℤ → ℤ → ℤ → List Bool
+missingMarks maximum minimum mean dewpoint radiation wind =
+    isMissing maximum ∷ isMissing minimum ∷ isMissing mean ∷ isMissing dewpoint ∷ isMissing radiation ∷ isMissing wind ∷ []
+
+-- 8: a reading out of range, or an earlier mean that is present but out of range
+abbrev pub readingFaults : ℤ → ℤ → ℤ → ℤ → ℤ → ℤ → List Bool
+readingFaults maximum minimum mean dewpoint radiation wind =
+    not (inRange quantities.temperature maximum)
+    ∷ not (inRange quantities.temperature minimum)
+    ∷ not (inRange quantities.temperature mean)
+    ∷ not (inRange quantities.temperature dewpoint)
+    ∷ not (inRange quantities.radiation radiation)
+    ∷ not (inRange quantities.wind wind)
+    ∷ []
+
+abbrev pub meanFault : Mean → Bool
+meanFault (Present f) = not (inRange quantities.temperature f)
+meanFault Absent = false
+
+-- 9: minimum > mean, mean > maximum, or dew point > maximum
+abbrev pub orderFaults : ℤ → ℤ → ℤ → ℤ → List Bool
+orderFaults maximum minimum mean dewpoint = ltZ mean minimum ∷ ltZ maximum mean ∷ ltZ maximum dewpoint ∷ []

@@ -1,0 +1,58 @@
+// The kinds of readings, each with its range.
+ghost use mathlib.Core.Path.{_≡_};
+ghost use Rattle.numbers.specs.Ranges.{inRange};
+ghost use Rattle.sheet.specs.Quantities as quantities;
+
+// A temperature in tenths of a degree Fahrenheit.
+pub struct Temperature {
+    pub tenths: i16,
+}
+
+impl Temperature {
+    pub const LOW: i16 = -94;
+
+    pub const HIGH: i16 = 1_291;
+
+    pub fn in_range(self) -> bool
+        ensures { λ r. ⌜ r ≡ inRange quantities.temperature (self .tenths) ⌝ }
+    {
+        let t = self.tenths;
+        Temperature::LOW <= t && t <= Temperature::HIGH
+    }
+}
+
+// Solar radiation in tenths of a cal/cm²/d.
+pub struct Radiation {
+    pub tenths: i16,
+}
+
+impl Radiation {
+    pub const LOW: i16 = 0;
+
+    pub const HIGH: i16 = 12_000;
+
+    pub fn in_range(self) -> bool
+        ensures { λ r. ⌜ r ≡ inRange quantities.radiation (self .tenths) ⌝ }
+    {
+        let t = self.tenths;
+        Radiation::LOW <= t && t <= Radiation::HIGH
+    }
+}
+
+// A wind run in tenths of a mile.
+pub struct Wind {
+    pub tenths: i16,
+}
+
+impl Wind {
+    pub const LOW: i16 = 0;
+
+    pub const HIGH: i16 = 9_999;
+
+    pub fn in_range(self) -> bool
+        ensures { λ r. ⌜ r ≡ inRange quantities.wind (self .tenths) ⌝ }
+    {
+        let t = self.tenths;
+        Wind::LOW <= t && t <= Wind::HIGH
+    }
+}
