@@ -6,7 +6,7 @@ pub mod calendar;
 mod inputs;
 pub mod judge;
 pub mod readings;
-mod rules;
+pub mod rules;
 
 // A station's four capitals.
 pub struct Code {
@@ -72,7 +72,7 @@ pub enum Verdict {
 
 impl Refusal {
     // Its number on an answer.
-    pub fn number(self) -> u8
+    pub fn number(self) -> u32
         ensures { λ r. ⌜ r ≡ numberOf self ⌝ }
     {
         match self {

@@ -1,0 +1,81 @@
+-- What is known of a day record of a log: its answer stands at its place (`answer-at`), its earlier means are in range (`means-in-range`), and a
+-- good date is one of the calendar (`good-in-calendar`). Assumes nothing.
+use mathlib.Core.Path.{_≡_, refl, sym, ap, _∙_}
+use mathlib.Core.Bool.{Bool, true, false, cond}
+use mathlib.Core.List.{List, [], _∷_, _++_, append-assoc}
+use Prim.Native.Nat.{ℕ, _+_}
+use lib.Dec.{eqb}
+use lib.IntN.{ℤ}
+use lib.ListN.{length, take, drop}
+use lib.Seq.{take-at, drop-at}
+use Rattle.day.specs.Calendar.{isDate}
+use Rattle.day.specs.Rules.{meanFault}
+use Rattle.day.specs.declared.Day.{Day}
+use Rattle.day.specs.declared.Earlier.{Earlier}
+use Rattle.day.specs.declared.Mean.{Mean}
+use Rattle.day.specs.declared.Mean.the-variants.{Present}
+use Rattle.day.specs.declared.Station.{Station}
+use Rattle.log.specs.Answers.{dayAnswer, verdictOf}
+use Rattle.log.specs.Days.{DayAt, verdictAt}
+use Rattle.log.specs.History.{numberOf, afterLast, goodDate, counted, meanBefore, earlierMeans}
+use Rattle.log.specs.Log.{day, answersOf, Reading, entriesOf, readingOf, outcomeOf, leaves, bufferAfter}
+use Rattle.log.specs.declared.Outcome.{Outcome}
+use Rattle.log.specs.declared.Outcome.the-variants.{Written}
+use Rattle.log.proofs.Along.{answers-append}
+use Rattle.log.proofs.Choice.{by-cond}
+
+-- ---- the answer
+
+-- nine bytes behind the list before them
+nine-at : (before bytes rest : List ℕ) {place : ℕ} → length bytes ≡ 9 → place ≡ length before
+    → take 9 (drop place (before ++ (bytes ++ rest))) ≡ bytes
+nine-at before bytes rest {place} l p = ap (take 9) (drop-at before (bytes ++ rest) place (sym p)) ∙ take-at bytes rest 9 l
+
+-- ---- the earlier means
+
+counted-in-range : (m : ℤ) → meanFault (counted m) ≡ false
+unfolding counted
+counted-in-range m = by-cond (λ (x : Mean). meanFault x ≡ false) (meanFault (Present m)) (λ e. refl) (λ e. e)
+
+before-in-range : (k : ℕ) (h : List Day) (n : ℕ) → meanFault (meanBefore k h n) ≡ false
+before-in-range k [] n = refl
+before-in-range k (y ∷ h) n =
+    by-cond (λ (x : Mean). meanFault x ≡ false) (eqb (numberOf y + k) n) (λ e. counted-in-range (y .mean)) (λ e. before-in-range k h n)
+
+-- ---- a day record
+
+module _ {s : List ℕ} {i : ℕ} {x : Station} {y : Day} {earlier : Earlier} {good : Bool} {place : ℕ} (d : DayAt s i x y earlier good place) where
+  verdict-is : verdictOf x (d .history) y ≡ verdictAt x y earlier good
+  unfolding verdictOf
+  verdict-is = rw (d .means, d .dated)
+
+  -- in the buffer that an accepted log leaves, the day's own answer stands at its place
+  pub answer-at : (buffer : List ℕ) {n : ℕ} → outcomeOf s (length buffer) ≡ Written n
+      → take 9 (drop place (bufferAfter s buffer)) ≡ dayAnswer y (verdictAt x y earlier good)
+  unfolding bufferAfter
+  answer-at buffer {n} e =
+      let own = dayAnswer y (verdictOf x (d .history) y) in
+      let front = answersOf (d .before) in
+      let back = answersOf (d .later) in
+      let answers : answersOf (entriesOf (readingOf s)) ≡ front ++ (own ++ back) =
+      ap (λ (r : Reading). answersOf (entriesOf r)) (d .stands) ∙ answers-append (d .before) (day x (d .history) y ∷ d .later) in
+      let whole : bufferAfter s buffer ≡ front ++ (own ++ (back ++ drop n buffer)) =
+      ap (λ (o : Outcome). leaves o (answersOf (entriesOf (readingOf s))) buffer) e
+      ∙ ap (λ (l : List ℕ). l ++ drop n buffer) answers
+      ∙ append-assoc front (own ++ back) (drop n buffer)
+      ∙ ap (λ (l : List ℕ). front ++ l) (append-assoc own back (drop n buffer)) in
+      ap (λ (l : List ℕ). take 9 (drop place l)) whole ∙ nine-at front own (back ++ drop n buffer) refl (d .behind) ∙ ap (dayAnswer y) verdict-is
+
+  pub good-in-calendar : good ≡ true → isDate (y .year) (y .d) ≡ true
+  unfolding goodDate
+  good-in-calendar g = by (isDate (y .year) (y .d)) (sym (d .dated) ∙ g)
+    where
+      by : (b : Bool) → cond b (afterLast (d .history) y) false ≡ true → b ≡ true
+      by true e = refl
+      by false e = e
+
+  pub means-in-range : (meanFault (earlier .one) ≡ false) × (meanFault (earlier .two) ≡ false) × (meanFault (earlier .three) ≡ false)
+  unfolding earlierMeans
+  means-in-range =
+      rw (d .means)
+      (before-in-range 1 (d .history) (numberOf y), before-in-range 2 (d .history) (numberOf y), before-in-range 3 (d .history) (numberOf y))

@@ -1,0 +1,56 @@
+-- Demand 3, entire: what is read of a log, and what is judged of a day handed in alone, meet it. The theorem is `demand-met`. Assumes nothing.
+use mathlib.Core.Path.{_≡_, refl, sym, ap, _∙_, subst}
+use mathlib.Core.Bool.{not, false}
+use mathlib.Core.List.{List}
+use Prim.Native.Nat.{ℕ}
+use Rattle.day.specs.Bound.{WithinBound, FigureOwed, JudgesWithinBound}
+use Rattle.day.specs.Judgement.{holds, judged, Answered}
+use Rattle.day.specs.declared.Day.{Day}
+use Rattle.day.specs.declared.Earlier.{Earlier}
+use Rattle.day.specs.declared.Refusal.{Refusal}
+use Rattle.day.specs.declared.Refusal.the-variants.{StationField, BadDate, Missing, OutOfRange, OutOfOrder, AboveClear, SumBelowOne}
+use Rattle.day.specs.declared.Station.{Station}
+use Rattle.day.specs.declared.Verdict.the-variants.{Figure}
+use Rattle.day.proofs.DayBound.{judged-within-bound}
+use Rattle.log.specs.Answers.{dayAnswer}
+use Rattle.log.specs.Demand.{AnsweredLog, AnsweredDay, FigureAt, FiguresOwed, EveryFigureWithinBound}
+use Rattle.log.specs.Log.{badStation, bufferAfter, Read}
+use Rattle.log.specs.declared.Outcome.{Outcome}
+use Rattle.log.proofs.Days.{answer-at, good-in-calendar}
+use Rattle.log.proofs.Stations.{station-sound, station-constants}
+
+module _ {s : List ℕ} {i : ℕ} {st : Station} {x : Day} {earlier : Earlier} {place : ℕ} (d : AnsweredDay s i st x earlier place) where
+  -- a log with a faulty station is refused, and a good date is one of the calendar: so none of the refusals holds
+  none-holds : (r : Refusal) → holds r st x earlier ≡ false
+  unfolding holds badStation
+  none-holds StationField = station-sound s (d .at) .faultless
+  none-holds BadDate = ap not (good-in-calendar (d .at) refl)
+  none-holds Missing = d .others Missing tt
+  none-holds OutOfRange = d .others OutOfRange tt
+  none-holds OutOfOrder = d .others OutOfOrder tt
+  none-holds AboveClear = d .others AboveClear tt
+  none-holds SumBelowOne = d .others SumBelowOne tt
+
+  answered : Answered st x earlier
+  unfolding Answered
+  answered = none-holds
+
+  owed : (n : ℕ) × (judged st x earlier ≡ Figure n) × WithinBound st x earlier n
+  unfolding JudgesWithinBound FigureOwed
+  owed = judged-within-bound st x earlier (station-constants (station-sound s (d .at))) answered
+
+  pub figure-at : (buffer : List ℕ) → AnsweredLog s buffer → FigureAt st x earlier place (bufferAfter s buffer)
+  unfolding AnsweredLog FigureAt
+  figure-at buffer log = (owed .0, answer-at (d .at) buffer (log .1) ∙ ap (dayAnswer x) (owed .1), owed .2)
+
+pub log-within-bound : (s buffer : List ℕ) → FiguresOwed s buffer (bufferAfter s buffer)
+unfolding FiguresOwed
+log-within-bound s buffer log i place st x earlier d = figure-at d buffer log
+
+pub demand-met : EveryFigureWithinBound bufferAfter judged
+unfolding EveryFigureWithinBound
+demand-met = (log-within-bound, judged-within-bound)
+
+-- a reader that leaves what is owed for the log leaves the figures that are owed
+pub with-figures : {s buffer after : List ℕ} {o : Outcome} → Read s buffer o after → Read s buffer o after × FiguresOwed s buffer after
+with-figures {s} {buffer} h = (h, subst (FiguresOwed s buffer) (sym (h .written)) (log-within-bound s buffer))

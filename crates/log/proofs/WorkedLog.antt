@@ -1,0 +1,121 @@
+-- Two logs worked through, byte for byte. Document 01's: its three days are answered in 32 bytes, and the third is an answered day, so what demand
+-- 3 asks can be met. And one of two blocks, with a year's end, refused days whose means count, and a date that comes again. Assumes nothing.
+use mathlib.Core.Path.{_≡_, refl}
+use mathlib.Core.Bool.{true}
+use mathlib.Core.List.{List, [], _∷_, _++_}
+use Prim.Native.Nat.{ℕ}
+use lib.IntN.{pos}
+use lib.ListN.{take, drop}
+use Rattle.day.specs.Calendar.{yearLength, isDate}
+use Rattle.day.specs.Judgement.{holds, judged, Answered}
+use Rattle.day.specs.declared.Earlier.{Earlier}
+use Rattle.day.specs.declared.Mean.the-variants.{Present, Absent}
+use Rattle.day.specs.declared.Verdict.{Verdict}
+use Rattle.day.specs.declared.Refusal.the-variants.{BadDate, Missing}
+use Rattle.day.specs.declared.Verdict.the-variants.{Refused}
+use Rattle.day.proofs.Examples.{days}
+use Rattle.log.specs.Answers.{dayAnswer, verdictOf}
+use Rattle.log.specs.Bytes.{wordAt, signedOf, signedAt}
+use Rattle.log.specs.Days.{DayAt}
+use Rattle.log.specs.Demand.{AnsweredDay}
+use Rattle.log.specs.History.{daysBefore, goodDate, counted, earlierMeans}
+use Rattle.log.specs.Log.{badStation, readFrom, readingOf, entriesOf, outcomeOf, bufferAfter}
+use Rattle.log.specs.Record.{stationAt, dayAt, recordAt}
+use Rattle.log.proofs.Sample.{sample, station, third}
+
+-- day 12, the third: two earlier means, of days that are refused
+abbrev means : Earlier
+means = record { one = Present (pos 200); two = Present (pos 200); three = Absent }
+
+pub answered : AnsweredDay sample 3 (stationAt sample 1) (dayAt sample 54) means 23
+unfolding stationAt dayAt wordAt signedOf signedAt Answered
+answered = record { at = third; others = λ r t. days .0 .answered r }
+
+-- days 10 and 11 lack the wind
+lacking : (judged (stationAt sample 1) (dayAt sample 20) (record { one = Absent; two = Absent; three = Absent }) ≡ Refused Missing)
+    × (judged (stationAt sample 1) (dayAt sample 37) (record { one = Present (pos 200); two = Absent; three = Absent }) ≡ Refused Missing)
+unfolding judged holds stationAt dayAt wordAt signedOf signedAt isDate yearLength
+lacking = (refl, refl)
+
+-- a buffer of 34 bytes
+abbrev lent : List ℕ
+lent =
+    9 ∷ 9 ∷ 9 ∷ 9 ∷ 9 ∷ 9 ∷ 9 ∷ 9 ∷ 9 ∷ 9 ∷ 9 ∷ 9 ∷ 9 ∷ 9 ∷ 9 ∷ 9 ∷ 9 ∷ 9 ∷ 9 ∷ 9 ∷ 9 ∷ 9 ∷ 9 ∷ 9 ∷ 9 ∷ 9 ∷ 9 ∷ 9 ∷ 9 ∷ 9 ∷ 9 ∷ 9 ∷ 9 ∷ 9 ∷ []
+
+abbrev answers : Verdict → Verdict → Verdict → List ℕ
+answers a b c =
+    (5 ∷ 76 ∷ 73 ∷ 68 ∷ 87 ∷ []) ++ dayAnswer (dayAt sample 20) a ++ dayAnswer (dayAt sample 37) b ++ dayAnswer (dayAt sample 54) c
+
+-- LIDW; day 10 and day 11 of 2008 refused with 7; day 12 with the figure 0; the last two bytes as they were
+pub bytes : bufferAfter sample lent ≡
+    5 ∷ 76 ∷ 73 ∷ 68 ∷ 87
+    ∷ 4 ∷ 7 ∷ 216 ∷ 0 ∷ 10 ∷ 0 ∷ 0 ∷ 0 ∷ 7
+    ∷ 4 ∷ 7 ∷ 216 ∷ 0 ∷ 11 ∷ 0 ∷ 0 ∷ 0 ∷ 7
+    ∷ 3 ∷ 7 ∷ 216 ∷ 0 ∷ 12 ∷ 0 ∷ 0 ∷ 0 ∷ 0
+    ∷ 9 ∷ 9 ∷ []
+unfolding bufferAfter outcomeOf readingOf readFrom recordAt stationAt dayAt wordAt signedOf signedAt badStation isDate yearLength daysBefore goodDate counted earlierMeans verdictOf
+bytes = λ i. answers (lacking .0 i) (lacking .1 i) (days .0 .verdict i) ++ (9 ∷ 9 ∷ [])
+
+-- ---- two blocks
+
+-- a day of four temperatures of one byte, no radiation, and the wind's high byte: 128 with a low byte of 0 is missing
+abbrev plainDay : ℕ → ℕ → ℕ → ℕ → ℕ → ℕ → ℕ → List ℕ
+plainDay year-low d-high d-low high low wind-high wind-low =
+    2 ∷ 7 ∷ year-low ∷ d-high ∷ d-low ∷ high ∷ low ∷ high ∷ low ∷ high ∷ low ∷ high ∷ low ∷ 0 ∷ 0 ∷ wind-high ∷ wind-low ∷ []
+
+-- LIDX with LIDW's fields
+abbrev otherStation : List ℕ
+otherStation = 1 ∷ 76 ∷ 73 ∷ 68 ∷ 88 ∷ 0 ∷ 154 ∷ 6 ∷ 224 ∷ 2 ∷ 102 ∷ 254 ∷ 116 ∷ 2 ∷ 78 ∷ 0 ∷ 100 ∷ 1 ∷ 241 ∷ []
+
+-- LIDX: day 365 of 2007 and day 1 of 2008, the wind missing. LIDW: days 10 and 11 of 2008 as before, day 11 again but warmer, and day 12.
+abbrev twoBlocks : List ℕ
+twoBlocks =
+    otherStation ++ plainDay 215 1 109 0 200 128 0 ++ plainDay 216 0 1 0 200 128 0
+    ++ station ++ plainDay 216 0 10 0 200 128 0 ++ plainDay 216 0 11 0 200 128 0 ++ plainDay 216 0 11 1 64 0 0 ++ plainDay 216 0 12 1 64 0 0
+
+-- over the year's end: day 1 has the mean of day 365, whose day is refused
+pub year-end : DayAt twoBlocks 2 (stationAt twoBlocks 1) (dayAt twoBlocks 37) (record { one = Present (pos 200); two = Absent; three = Absent }) true 14
+unfolding readingOf readFrom recordAt stationAt dayAt wordAt signedOf signedAt badStation isDate yearLength daysBefore goodDate counted earlierMeans
+year-end =
+    record {
+      before = take 2 (entriesOf (readingOf twoBlocks));
+      later = drop 3 (entriesOf (readingOf twoBlocks));
+      history = dayAt twoBlocks 20 ∷ [];
+      stands = refl;
+      index = refl;
+      means = refl;
+      dated = refl;
+      behind = refl;
+    }
+
+lacking-too : (judged (stationAt twoBlocks 1) (dayAt twoBlocks 20) (record { one = Absent; two = Absent; three = Absent }) ≡ Refused Missing)
+    × (judged (stationAt twoBlocks 1) (dayAt twoBlocks 37) (record { one = Present (pos 200); two = Absent; three = Absent }) ≡ Refused Missing)
+unfolding judged holds stationAt dayAt wordAt signedOf signedAt isDate yearLength
+lacking-too = (refl, refl)
+
+abbrev room : List ℕ
+room = lent ++ lent
+
+-- the day 11 that comes again is refused with 6 and counts for nothing: day 12 has the figure that it has without it
+pub two-blocks : bufferAfter twoBlocks room ≡
+    5 ∷ 76 ∷ 73 ∷ 68 ∷ 88
+    ∷ 4 ∷ 7 ∷ 215 ∷ 1 ∷ 109 ∷ 0 ∷ 0 ∷ 0 ∷ 7
+    ∷ 4 ∷ 7 ∷ 216 ∷ 0 ∷ 1 ∷ 0 ∷ 0 ∷ 0 ∷ 7
+    ∷ 5 ∷ 76 ∷ 73 ∷ 68 ∷ 87
+    ∷ 4 ∷ 7 ∷ 216 ∷ 0 ∷ 10 ∷ 0 ∷ 0 ∷ 0 ∷ 7
+    ∷ 4 ∷ 7 ∷ 216 ∷ 0 ∷ 11 ∷ 0 ∷ 0 ∷ 0 ∷ 7
+    ∷ 4 ∷ 7 ∷ 216 ∷ 0 ∷ 11 ∷ 0 ∷ 0 ∷ 0 ∷ 6
+    ∷ 3 ∷ 7 ∷ 216 ∷ 0 ∷ 12 ∷ 0 ∷ 0 ∷ 0 ∷ 0
+    ∷ drop 64 room
+unfolding bufferAfter outcomeOf readingOf readFrom recordAt stationAt dayAt wordAt signedOf signedAt badStation isDate yearLength daysBefore goodDate counted earlierMeans verdictOf
+two-blocks =
+    λ i.
+    (5 ∷ 76 ∷ 73 ∷ 68 ∷ 88 ∷ [])
+    ++ dayAnswer (dayAt twoBlocks 20) (lacking-too .0 i)
+    ++ dayAnswer (dayAt twoBlocks 37) (lacking-too .1 i)
+    ++ (5 ∷ 76 ∷ 73 ∷ 68 ∷ 87 ∷ [])
+    ++ dayAnswer (dayAt sample 20) (lacking .0 i)
+    ++ dayAnswer (dayAt sample 37) (lacking .1 i)
+    ++ dayAnswer (dayAt sample 37) (Refused BadDate)
+    ++ dayAnswer (dayAt sample 54) (days .0 .verdict i)
+    ++ drop 64 room

@@ -1,0 +1,31 @@
+-- A day record of a log: its station, its earlier means, and the place of its answer. Assumes nothing.
+use mathlib.Core.Bool.{Bool, cond}
+use mathlib.Core.List.{List, _∷_, _++_}
+use mathlib.Core.Path.{_≡_}
+use Prim.Native.Nat.{ℕ}
+use lib.ListN.{length}
+use Rattle.day.specs.Judgement.{judged}
+use Rattle.day.specs.declared.Day.{Day}
+use Rattle.day.specs.declared.Earlier.{Earlier}
+use Rattle.day.specs.declared.Refusal.the-variants.{BadDate}
+use Rattle.day.specs.declared.Station.{Station}
+use Rattle.day.specs.declared.Verdict.{Verdict}
+use Rattle.day.specs.declared.Verdict.the-variants.{Refused}
+use Rattle.log.specs.History.{goodDate, earlierMeans}
+use Rattle.log.specs.Log.{Entry, day, accepted, readingOf, answersOf}
+
+-- Record number i of the log s, counted from 0, is the day x of a block of `station`. `earlier` are the means that the block's records before it
+-- give, `good` says whether its date is good, and its answer stands at `place`: after the answers of the records before it.
+pub record DayAt (s : List ℕ) (i : ℕ) (station : Station) (x : Day) (earlier : Earlier) (good : Bool) (place : ℕ) : Type 0 where
+  pub before : List Entry
+  pub later : List Entry
+  pub history : List Day
+  pub stands : readingOf s ≡ accepted (before ++ (day station history x ∷ later))
+  pub index : i ≡ length before
+  pub means : earlier ≡ earlierMeans history x
+  pub dated : good ≡ goodDate history x
+  pub behind : place ≡ length (answersOf before)
+
+-- the verdict in its answer: 6, or that of the judgement
+abbrev pub verdictAt : Station → Day → Earlier → Bool → Verdict
+verdictAt station x earlier good = cond good (judged station x earlier) (Refused BadDate)
