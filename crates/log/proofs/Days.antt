@@ -17,7 +17,7 @@ use Rattle.day.specs.declared.Mean.the-variants.{Present}
 use Rattle.day.specs.declared.Station.{Station}
 use Rattle.log.specs.Answers.{dayAnswer, verdictOf}
 use Rattle.log.specs.Days.{DayAt, verdictAt}
-use Rattle.log.specs.History.{numberOf, afterLast, goodDate, counted, meanBefore, earlierMeans}
+use Rattle.log.specs.History.{dateNumber, afterLast, goodDate, counted, meanBefore, earlierMeans}
 use Rattle.log.specs.Log.{day, answersOf, Reading, entriesOf, readingOf, outcomeOf, leaves, bufferAfter}
 use Rattle.log.specs.declared.Outcome.{Outcome}
 use Rattle.log.specs.declared.Outcome.the-variants.{Written}
@@ -40,7 +40,7 @@ counted-in-range m = by-cond (λ (x : Mean). meanFault x ≡ false) (meanFault (
 before-in-range : (k : ℕ) (h : List Day) (n : ℕ) → meanFault (meanBefore k h n) ≡ false
 before-in-range k [] n = refl
 before-in-range k (y ∷ h) n =
-    by-cond (λ (x : Mean). meanFault x ≡ false) (eqb (numberOf y + k) n) (λ e. counted-in-range (y .mean)) (λ e. before-in-range k h n)
+    by-cond (λ (x : Mean). meanFault x ≡ false) (eqb (dateNumber y + k) n) (λ e. counted-in-range (y .mean)) (λ e. before-in-range k h n)
 
 -- ---- a day record
 
@@ -78,4 +78,4 @@ module _ {s : List ℕ} {i : ℕ} {x : Station} {y : Day} {earlier : Earlier} {g
   unfolding earlierMeans
   means-in-range =
       rw (d .means)
-      (before-in-range 1 (d .history) (numberOf y), before-in-range 2 (d .history) (numberOf y), before-in-range 3 (d .history) (numberOf y))
+      (before-in-range 1 (d .history) (dateNumber y), before-in-range 2 (d .history) (dateNumber y), before-in-range 3 (d .history) (dateNumber y))
