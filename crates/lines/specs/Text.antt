@@ -1,0 +1,66 @@
+-- The lines of the report as lists of bytes, by document 01, "Proved days and edges". Assumes nothing.
+use mathlib.Core.List.{List, [], _∷_, _++_}
+use Prim.Native.Nat.{ℕ, zero, suc, _+_, _-_, _/_, _%_}
+use lib.ListN.{length, replicate}
+use Rattle.day.specs.Rules.{numberOf}
+use Rattle.day.specs.declared.Code.{Code}
+use Rattle.day.specs.declared.Verdict.{Verdict}
+use Rattle.day.specs.declared.Verdict.the-variants.{Figure, Refused}
+
+-- the bytes of a space, of a decimal point, of a newline, and of a digit from 0 to 9
+abbrev pub space : ℕ
+space = 32
+
+abbrev pub point : ℕ
+point = 46
+
+abbrev pub newline : ℕ
+newline = 10
+
+abbrev pub digit : ℕ → ℕ
+digit d = 48 + d
+
+-- the decimal digits of n, the highest first, and none for 0; m bounds how many there are
+unfoldable pub leading : ℕ → ℕ → List ℕ
+leading zero n = []
+leading (suc m) zero = []
+leading (suc m) (suc n) = leading m (suc n / 10) ++ digit (suc n % 10) ∷ []
+
+-- n in decimal without zeros in front: what stands before the last digit, and the last digit. At most n digits stand before the last.
+unfoldable pub digits : ℕ → List ℕ
+digits n = leading n (n / 10) ++ digit (n % 10) ∷ []
+
+-- "year in four digits; day in three (zeros in front, a longer number whole)"
+unfoldable pub padded : ℕ → ℕ → List ℕ
+padded k n = replicate (k - length (digits n)) (digit 0) ++ digits n
+
+-- "inches with four decimals", of n ten-thousandths
+unfoldable pub inches : ℕ → List ℕ
+inches n = digits (n / 10_000) ++ point ∷ padded 4 (n % 10_000)
+
+-- "or R and the number"
+unfoldable pub verdictText : Verdict → List ℕ
+verdictText (Figure n) = inches n
+verdictText (Refused r) = 82 ∷ digits (numberOf r)
+
+-- the four letters of a station's code
+abbrev pub codeText : Code → List ℕ
+codeText code = code .first ∷ code .second ∷ code .third ∷ code .fourth ∷ []
+
+-- "Fields, parted by one space": a field that follows another
+abbrev pub field : List ℕ → List ℕ
+field text = space ∷ text
+
+-- `STN YEAR DAY ET`
+abbrev pub header : List ℕ
+header = 83 ∷ 84 ∷ 78 ∷ 32 ∷ 89 ∷ 69 ∷ 65 ∷ 82 ∷ 32 ∷ 68 ∷ 65 ∷ 89 ∷ 32 ∷ 69 ∷ 84 ∷ newline ∷ []
+
+-- the line of a day: code, year, day, and the inches or the refusal
+unfoldable pub dayLine : Code → ℕ → ℕ → Verdict → List ℕ
+dayLine code year d verdict =
+    codeText code ++ field (padded 4 year) ++ field (padded 3 d) ++ field (verdictText verdict) ++ newline ∷ []
+
+-- "A refused log prints only `REFUSED`, the number and the offset or length"
+unfoldable pub refusedLine : ℕ → ℕ → List ℕ
+refusedLine number value =
+    (82 ∷ 69 ∷ 70 ∷ 85 ∷ 83 ∷ 69 ∷ 68 ∷ []) ++ field (digits number) ++ field (digits value) ++ newline ∷ []

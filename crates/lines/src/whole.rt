@@ -1,0 +1,52 @@
+// Whole lines, laid over a buffer from `at` on, each with its newline.
+ghost use Prim.Native.Nat.{_+_, _≤_};
+ghost use lib.ListN.{length};
+ghost use Rattle.lines.specs.Text.{header, dayLine, refusedLine};
+ghost use Rattle.lines.specs.Written.{Written};
+use crate::fields::put_byte;
+use crate::fields::put_code;
+use crate::fields::put_digits;
+use crate::fields::put_four;
+use crate::fields::put_number_field;
+use crate::fields::put_verdict_field;
+use day::Code;
+use day::Verdict;
+
+pub fn put_header(out: &mut [u8], at: usize) -> usize
+    requires { ⌜ at + length header ≤ length (now out) ⌝ }
+    ensures { λ r. ⌜ Written (now (out .entry)) at header (now (out .exit)) r ⌝ }
+{
+    let year = put_four(out, at, b'S', b'T', b'N', b' ');
+    let d = put_four(out, year, b'Y', b'E', b'A', b'R');
+    let et = put_four(out, d, b' ', b'D', b'A', b'Y');
+    put_four(out, et, b' ', b'E', b'T', b'\n')
+}
+
+pub fn put_day_line(
+    out: &mut [u8],
+    at: usize,
+    code: Code,
+    year: u16,
+    d: u16,
+    verdict: Verdict,
+) -> usize
+    requires { ⌜ at + length (dayLine code year d verdict) ≤ length (now out) ⌝ }
+    ensures { λ r. ⌜ Written (now (out .entry)) at (dayLine code year d verdict) (now (out .exit)) r ⌝ }
+{
+    let code_end = put_code(out, at, code);
+    let year_end = put_number_field(out, code_end, 4, year as u64);
+    let d_end = put_number_field(out, year_end, 3, d as u64);
+    let verdict_end = put_verdict_field(out, d_end, verdict);
+    put_byte(out, verdict_end, b'\n')
+}
+
+pub fn put_refused_line(out: &mut [u8], at: usize, number: u8, value: usize) -> usize
+    requires { ⌜ at + length (refusedLine number value) ≤ length (now out) ⌝ }
+    ensures { λ r. ⌜ Written (now (out .entry)) at (refusedLine number value) (now (out .exit)) r ⌝ }
+{
+    let half = put_four(out, at, b'R', b'E', b'F', b'U');
+    let start = put_four(out, half, b'S', b'E', b'D', b' ');
+    let number_end = put_digits(out, start, number as u64);
+    let value_end = put_number_field(out, number_end, 0, value as u64);
+    put_byte(out, value_end, b'\n')
+}
