@@ -10,7 +10,8 @@ pub record Written (before : List ℕ) (at : ℕ) (text after : List ℕ) (next 
   pub behind : next ≡ at + length text
   pub bytes : after ≡ take at before ++ text ++ drop (at + length text) before
 
--- the line stands at the front, every later byte is unchanged, and n is the line's length
+-- the line stands at the front, every later byte is unchanged, n is the line's length, and the buffer is as long as it was
 pub record AtFront (before line after : List ℕ) (n : ℕ) : Type 0 where
   pub size : n ≡ length line
   pub bytes : after ≡ line ++ drop (length line) before
+  pub long : length after ≡ length before

@@ -1,0 +1,30 @@
+-- `report::word` meets its contract: what two bytes hold, sixteen bits hold. Assumes nothing.
+use Prim.Native.Nat.{_+_}
+use native.Mathlib.Omega.{arith}
+use borrow.Author.Needs.{needs}
+use Rattle.report.proofs.word.Statement.{statement}
+use Rattle.report.proofs.word.Tie as tie
+
+cast-result : tie.Need-cast-result
+cast-result c = omega (arith, c .shared-slice-known .given (c .before .args .i))
+
+mul-result : tie.Need-mul-result
+mul-result c = omega (arith, c .shared-slice-known .given (c .before .args .i))
+
+cast-result-2 : tie.Need-cast-result-2
+cast-result-2 c = omega (arith, c .shared-slice-known2 .given (c .before .before .args .i + 1))
+
+add-result-2 : tie.Need-add-result-2
+add-result-2 c =
+    let i = c .before .before .args .i in
+    omega (arith, c .before .shared-slice-known .given i, c .shared-slice-known2 .given (i + 1))
+
+returns : tie.Need-returns
+returns c = tt
+
+pub word-spec : {M : Type 1} → statement M
+word-spec =
+    tie.close
+    (tie.spec
+    (λ c. search needs) cast-result mul-result (λ c. search needs) (λ c. search needs) cast-result-2 add-result-2
+    returns)

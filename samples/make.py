@@ -1,0 +1,43 @@
+"""Makes the sample logs beside this file: python3 samples/make.py"""
+import os
+import struct
+
+MISSING = -32768
+LIDW = (b"LIDW", (154, 1760, 614, -396, 590), 100, 497)
+HIGH = (b"HIGH", (180, 1900, 600, -390, 580), 120, 1850)
+
+
+def station(code, constants, minimum, elevation):
+    return bytes([1]) + code + struct.pack(">5hHH", *constants, minimum, elevation)
+
+
+def day(year, d, maximum, minimum, mean, dewpoint, radiation, wind):
+    return bytes([2]) + struct.pack(">HH6h", year, d, maximum, minimum, mean, dewpoint, radiation, wind)
+
+
+def season(year, first, last, warmth):
+    """Plain weather: warmest and brightest at day 200, a little different from day to day."""
+    for d in range(first, last + 1):
+        off = abs(d - 200)
+        turn = (d * 37) % 50
+        maximum = 920 + warmth - 3 * off + turn
+        minimum = maximum - 330 + turn // 2
+        mean = (maximum + minimum) // 2
+        dewpoint = minimum - 40
+        radiation = 7000 - 25 * off - 20 * turn
+        wind = 600 + 12 * turn
+        yield day(year, d, maximum, minimum, mean, dewpoint, radiation, wind)
+
+
+def write(name, *parts):
+    with open(os.path.join(os.path.dirname(os.path.abspath(__file__)), name), "wb") as f:
+        f.write(b"".join(parts))
+
+
+same = lambda t, wind: (t, t, t, t, 0, wind)
+worked = (station(*LIDW), day(2008, 10, *same(200, MISSING)), day(2008, 11, *same(200, MISSING)), day(2008, 12, *same(320, 0)))
+
+write("worked.log", *worked)
+write("season.log", station(*LIDW), *season(2008, 105, 288, 0))
+write("two_stations.log", station(*LIDW), *season(2008, 180, 186, 0), station(*HIGH), *season(2008, 180, 186, -120))
+write("cut_off.log", b"".join(worked)[:-3])
