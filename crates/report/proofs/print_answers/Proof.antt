@@ -1,6 +1,5 @@
 -- `report::print_answers` is safe and ends. The measure is the number of turns that are left; nothing has to hold from turn to turn. Assumes nothing.
 use native.Mathlib.Omega.{arith}
-use borrow.Author.Needs.{needs}
 use Rattle.report.proofs.print_answers.Statement.{statement}
 use Rattle.report.proofs.print_answers.Tie as tie
 
