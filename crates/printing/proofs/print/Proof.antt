@@ -1,9 +1,9 @@
--- `report::print` is safe: the bytes that it writes are within the line. Assumes nothing.
+-- `printing::print` is safe: the bytes that it writes are within the line. Assumes nothing.
 use mathlib.Core.Path.{sym}
 use borrow.Author.Needs.{needs}
 use lib.Seq.{length-take-le}
-use Rattle.report.proofs.print.Statement.{statement}
-use Rattle.report.proofs.print.Tie as tie
+use Rattle.printing.proofs.print.Statement.{statement}
+use Rattle.printing.proofs.print.Tie as tie
 
 slice-aggregate-write-all : tie.Need-slice-aggregate-write-all
 slice-aggregate-write-all c = sym (length-take-le _ _ (c .before .if1 .left))

@@ -1,9 +1,9 @@
--- `report::word` meets its contract: what two bytes hold, sixteen bits hold. Assumes nothing.
+-- `printing::word` meets its contract: what two bytes hold, sixteen bits hold. Assumes nothing.
 use Prim.Native.Nat.{_+_}
 use native.Mathlib.Omega.{arith}
 use borrow.Author.Needs.{needs}
-use Rattle.report.proofs.word.Statement.{statement}
-use Rattle.report.proofs.word.Tie as tie
+use Rattle.printing.proofs.word.Statement.{statement}
+use Rattle.printing.proofs.word.Tie as tie
 
 cast-result : tie.Need-cast-result
 cast-result c = omega (arith, c .shared-slice-known .given (c .before .args .i))

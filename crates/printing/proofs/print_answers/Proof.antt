@@ -1,7 +1,7 @@
--- `report::print_answers` is safe and ends. The measure is the number of turns that are left; nothing has to hold from turn to turn. Assumes nothing.
+-- `printing::print_answers` is safe and ends. The measure is the number of turns that are left; nothing has to hold from turn to turn. Assumes nothing.
 use native.Mathlib.Omega.{arith}
-use Rattle.report.proofs.print_answers.Statement.{statement}
-use Rattle.report.proofs.print_answers.Tie as tie
+use Rattle.printing.proofs.print_answers.Statement.{statement}
+use Rattle.printing.proofs.print_answers.Tie as tie
 
 abbrev Inv-loop : tie.InvT-loop
 Inv-loop answers walk₀ turns₀ walk turns = Unit {0}
