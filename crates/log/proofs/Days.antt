@@ -1,28 +1,23 @@
--- What is known of a day record of a log: its answer stands at its place (`answer-at`), its earlier means are in range (`means-in-range`), and a
--- good date is one of the calendar (`good-in-calendar`). Assumes nothing.
+-- What is known of a day record of a log: its answer stands at its place (`answer-at`), and a good date is one of the calendar (`good-in-calendar`).
+-- Assumes nothing.
 use mathlib.Core.Path.{_≡_, refl, sym, ap, _∙_}
 use mathlib.Core.Bool.{Bool, true, false, cond}
-use mathlib.Core.List.{List, [], _∷_, _++_, append-assoc}
+use mathlib.Core.List.{List, _∷_, _++_, append-assoc}
 use Prim.Native.Nat.{ℕ, _+_}
-use lib.Dec.{eqb}
-use lib.IntN.{ℤ}
 use lib.ListN.{length, take, drop}
 use lib.Seq.{take-at, drop-at}
 use Rattle.day.specs.Calendar.{isDate}
-use Rattle.day.specs.Rules.{meanFault}
 use Rattle.day.specs.declared.Day.{Day}
 use Rattle.day.specs.declared.Earlier.{Earlier}
 use Rattle.day.specs.declared.Mean.{Mean}
-use Rattle.day.specs.declared.Mean.the-variants.{Present}
 use Rattle.day.specs.declared.Station.{Station}
 use Rattle.log.specs.Answers.{dayAnswer, verdictOf}
 use Rattle.log.specs.Days.{DayAt, verdictAt}
-use Rattle.log.specs.History.{dateNumber, afterLast, goodDate, counted, meanBefore, earlierMeans}
+use Rattle.log.specs.History.{afterLast, goodDate}
 use Rattle.log.specs.Log.{day, answersOf, Reading, entriesOf, readingOf, outcomeOf, leaves, bufferAfter}
 use Rattle.log.specs.declared.Outcome.{Outcome}
 use Rattle.log.specs.declared.Outcome.the-variants.{Written}
 use Rattle.log.proofs.Along.{answers-append}
-use Rattle.log.proofs.Choice.{by-cond}
 
 -- ---- the answer
 
@@ -30,17 +25,6 @@ use Rattle.log.proofs.Choice.{by-cond}
 nine-at : (before bytes rest : List ℕ) {place : ℕ} → length bytes ≡ 9 → place ≡ length before
     → take 9 (drop place (before ++ (bytes ++ rest))) ≡ bytes
 nine-at before bytes rest {place} l p = ap (take 9) (drop-at before (bytes ++ rest) place (sym p)) ∙ take-at bytes rest 9 l
-
--- ---- the earlier means
-
-counted-in-range : (m : ℤ) → meanFault (counted m) ≡ false
-unfolding counted
-counted-in-range m = by-cond (λ (x : Mean). meanFault x ≡ false) (meanFault (Present m)) (λ e. refl) (λ e. e)
-
-before-in-range : (k : ℕ) (h : List Day) (n : ℕ) → meanFault (meanBefore k h n) ≡ false
-before-in-range k [] n = refl
-before-in-range k (y ∷ h) n =
-    by-cond (λ (x : Mean). meanFault x ≡ false) (eqb (dateNumber y + k) n) (λ e. counted-in-range (y .mean)) (λ e. before-in-range k h n)
 
 -- ---- a day record
 
@@ -73,9 +57,3 @@ module _ {s : List ℕ} {i : ℕ} {x : Station} {y : Day} {earlier : Earlier} {g
       by : (b : Bool) → cond b (afterLast (d .history) y) false ≡ true → b ≡ true
       by true e = refl
       by false e = e
-
-  pub means-in-range : (meanFault (earlier .one) ≡ false) × (meanFault (earlier .two) ≡ false) × (meanFault (earlier .three) ≡ false)
-  unfolding earlierMeans
-  means-in-range =
-      rw (d .means)
-      (before-in-range 1 (d .history) (dateNumber y), before-in-range 2 (d .history) (dateNumber y), before-in-range 3 (d .history) (dateNumber y))

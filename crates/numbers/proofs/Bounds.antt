@@ -114,9 +114,6 @@ abs-negative x =
     ≤ℚ-antisym (abs-bounded (bounded-neg (bounded-abs x)))
     (abs-bounded (bounded-eq (ringℚ 1 (λ x. x := :- :- x) tt x) (bounded-neg (bounded-abs (-ℚ x)))))
 
-pub triangle : (x y : ℚ) → absℚ (x +ℚ y) ≤ℚ absℚ x +ℚ absℚ y
-triangle x y = abs-bounded (bounded-add (bounded-abs x) (bounded-abs y))
-
 pub abs-is-nonneg : (x : ℚ) → NonNeg (absℚ x)
 abs-is-nonneg x = bound-nonneg (bounded-abs x)
 

@@ -1,7 +1,6 @@
 -- The order of ℤ (`lib.Signed`) with the laws that the library lacks, and the absolute value. `from-gapℤ` is the way to an inequality: b - a
 -- is a sum of products of numbers that are not below 0. Assumes nothing.
 use mathlib.Core.Path.{_≡_, refl, sym, _∙_, ap, subst}
-use mathlib.Core.Logic.{_⊎_, inl, inr}
 use mathlib.Core.Bool.{Bool, true, false, not, cond}
 use Prim.Native.Nat.{ℕ, zero, suc, _-_, _≤_, _<_, zero-le, suc-le-suc}
 use native.Mathlib.Nat.{le-of-suc-le-suc, not-suc-le-zero}
@@ -11,7 +10,7 @@ use lib.IntN.{ℤ, pos, negsuc, negℤ, _+ℤ_, _-ℤ_, _*ℤ_, subℕ}
 use lib.Signed.{nonNeg, ltZ, leZ, _≤ℤ_, ≤ℤ-refl}
 use borrow.Author.Tests.{ltb-true, ltb-false, lt-leb, le-leb}
 use Rattle.numbers.specs.Whole.{absℤ}
-use Rattle.numbers.specs.Solver.{con, _:+_, _:-_, _:*_, :-_, _:=_}
+use Rattle.numbers.specs.Solver.{con, _:-_, _:*_, :-_, _:=_}
 use Rattle.numbers.specs.IntegerSolver.{ringℤ}
 use Rattle.numbers.specs.Congruence.{nonNeg-mul}
 
@@ -82,10 +81,6 @@ from-gapℤ {a} {b} h p = record { le = test-gap a b (subst (λ (z : ℤ). T (no
 
 -- ---- the order's laws
 
-pub ≤ℤ-trans : {a b c : ℤ} → a ≤ℤ b → b ≤ℤ c → a ≤ℤ c
-≤ℤ-trans {a} {b} {c} h k =
-    from-gapℤ (nonneg-addℤ (gapℤ h) (gapℤ k)) (ringℤ 3 (λ a b c. c :- a := b :- a :+ (c :- b)) tt a b c)
-
 pub ≤ℤ-antisym : {a b : ℤ} → a ≤ℤ b → b ≤ℤ a → a ≡ b
 ≤ℤ-antisym {a} {b} h k =
     ringℤ 2 (λ a b. a := b :- (b :- a)) tt a b
@@ -93,20 +88,6 @@ pub ≤ℤ-antisym : {a b : ℤ} → a ≤ℤ b → b ≤ℤ a → a ≡ b
     (zero-of-both (b -ℤ a) (gapℤ h .test)
     (subst (λ (z : ℤ). T (nonNeg z)) (ringℤ 2 (λ a b. a :- b := :- (b :- a)) tt a b) (gapℤ k .test)))
     ∙ ringℤ 1 (λ b. b :- con (pos 0) := b) tt b
-
-pub ≤ℤ-or : (a b : ℤ) → (a ≤ℤ b) ⊎ (b ≤ℤ a)
-≤ℤ-or a b = by-test (nonNeg (b -ℤ a)) refl
-  where
-    by-test : (c : Bool) → nonNeg (b -ℤ a) ≡ c → (a ≤ℤ b) ⊎ (b ≤ℤ a)
-    by-test true e = inl (record { le = test-gap a b (subst T (sym e) tt) })
-    by-test false e =
-        inr
-        (from-gapℤ (record { test = nonNeg-negate (b -ℤ a) (subst (λ (c : Bool). T (not c)) (sym e) tt) })
-        (ringℤ 2 (λ a b. a :- b := :- (b :- a)) tt a b))
-
-pub +ℤ-mono : {a b c d : ℤ} → a ≤ℤ b → c ≤ℤ d → _≤ℤ_ (a +ℤ c) (b +ℤ d)
-+ℤ-mono {a} {b} {c} {d} h k =
-    from-gapℤ (nonneg-addℤ (gapℤ h) (gapℤ k)) (ringℤ 4 (λ a b c d. b :+ d :- (a :+ c) := b :- a :+ (d :- c)) tt a b c d)
 
 pub *ℤ-mono : {a b c : ℤ} → NonNegℤ c → a ≤ℤ b → _≤ℤ_ (a *ℤ c) (b *ℤ c)
 *ℤ-mono {a} {b} {c} n h =

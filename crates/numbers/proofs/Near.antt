@@ -39,9 +39,6 @@ near-sym {x} {y} h = near (ringℚ 2 (λ x y. y :- x := :- (x :- y)) tt x y) (bo
 pub near-abs : {x X ε : ℚ} → Near x X ε → absℚ (x -ℚ X) ≤ℚ ε
 near-abs h = abs-bounded (error h)
 
-pub abs-near : {x X ε : ℚ} → absℚ (x -ℚ X) ≤ℚ ε → Near x X ε
-abs-near {x} {X} h = near refl (bounded-weaken (bounded-abs (x -ℚ X)) h)
-
 -- ---- sums, products, quotients
 
 pub near-add : {x X y Y δ ε : ℚ} → Near x X δ → Near y Y ε → Near (x +ℚ y) (X +ℚ Y) (δ +ℚ ε)

@@ -2,7 +2,6 @@
 -- solver. Assumes nothing.
 use mathlib.Core.Path.{_≡_, refl, sym, _∙_, ap, subst}
 use mathlib.Core.HLevel.{Π-prop}
-use mathlib.Core.Logic.{_⊎_, inl, inr}
 use mathlib.Core.Bool.{Bool, true, false, not}
 use mathlib.Core.Quot.{Quot·sound, Quot-set, ind}
 use Prim.Native.Nat.{suc, _≤_}
@@ -150,16 +149,6 @@ pub *ℚ-at-least : {x y l m : ℚ} → NonNeg l → NonNeg m → l ≤ℚ x →
 *ℚ-at-least {x} {y} {l} {m} nl nm hx hy =
     from-gap (nonneg-add (nonneg-mul (gap hx) (gap hy)) (nonneg-add (nonneg-mul nl (gap hy)) (nonneg-mul (gap hx) nm)))
     (ringℚ 4 (λ x y l m. x :* y :- l :* m := (x :- l) :* (y :- m) :+ (l :* (y :- m) :+ (x :- l) :* m)) tt x y l m)
-
-pub ≤ℚ-or : (x y : ℚ) → (x ≤ℚ y) ⊎ (y ≤ℚ x)
-≤ℚ-or x y = by-test (nonneg (y -ℚ x)) refl
-  where
-    by-test : (b : Bool) → nonneg (y -ℚ x) ≡ b → (x ≤ℚ y) ⊎ (y ≤ℚ x)
-    by-test true e = inl (record { le = subst T (sym e) tt })
-    by-test false e =
-        inr
-        (from-gap (nonneg-negate (y -ℚ x) (subst (λ (b : Bool). T (not b)) (sym e) tt))
-        (ringℚ 2 (λ x y. x :- y := :- (y :- x)) tt x y))
 
 zero-ratio : (a : Ratio) → T (nonneg (fraction a)) → T (nonneg (-ℚ fraction a)) → fraction a ≡ fromℤ (pos 0)
 unfolding nonneg -ℚ_

@@ -44,9 +44,6 @@ fromℤ-test a b =
 pub fromℤ-mono : {a b : ℤ} → a ≤ℤ b → fromℤ a ≤ℚ fromℤ b
 fromℤ-mono {a} {b} h = record { le = subst T (fromℤ-test a b) (h .le) }
 
-pub fromℤ-order : {a b : ℤ} → fromℤ a ≤ℚ fromℤ b → a ≤ℤ b
-fromℤ-order {a} {b} h = record { le = subst T (sym (fromℤ-test a b)) (h .le) }
-
 pub fromℕ-mono : {m n : ℕ} → m ≤ n → fromℤ (pos m) ≤ℚ fromℤ (pos n)
 fromℕ-mono {m} {n} h =
     from-gap (nonneg-ℕ (le-dest h .0))

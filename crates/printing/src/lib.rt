@@ -1,7 +1,6 @@
 // The report of a log on standard output: a line for each of its days, or one line where it is refused.
 ghost use Prim.Native.Nat.{_+_, _<_};
 ghost use mathlib.Core.Path.{_≡_};
-ghost use lib.ListN.{length};
 ghost use Rattle.log.specs.Log.{bufferAfter};
 use day::Code;
 use day::Verdict;
@@ -41,13 +40,6 @@ fn print_day(code: Code, year: u16, d: u16, verdict: Verdict) -> bool {
     print(&line, n)
 }
 
-// The number of two bytes at i, the high one first.
-fn word(s: &[u8], i: usize) -> u16
-    requires { ⌜ i + 1 < length (now s) ⌝ }
-{
-    (s[i] as u16) * 256 + (s[i + 1] as u16)
-}
-
 // Prints the answer at the walk's offset, if there is one, and goes to the next. A station prints no line of its own.
 fn print_answer(answers: &[u8], walk: Walk) -> Walk {
     let at = walk.at;
@@ -81,9 +73,10 @@ fn print_answer(answers: &[u8], walk: Walk) -> Walk {
     if left < 9 {
         return end;
     }
-    let year = word(answers, at + 1);
-    let d = word(answers, at + 3);
-    let value = (word(answers, at + 5) as u32) * 65_536 + (word(answers, at + 7) as u32);
+    let year = log::records::word(answers, at + 1);
+    let d = log::records::word(answers, at + 3);
+    let value = (log::records::word(answers, at + 5) as u32) * 65_536
+        + (log::records::word(answers, at + 7) as u32);
     let verdict = lines::answers::verdict_of(kind, value);
     Walk {
         at: at + 9,
