@@ -146,7 +146,8 @@ module _ (st : Station) (day : Day) (earlier : Earlier) (constants : SignedConst
   dewpoint-in = temperature (readings-in .dewpoint)
 
   entries-in : EntriesInRange (entriesOf st day)
-  entries-in = passed-tests.entries-in st day d-low d-high elevation-high
+  unfolding entriesOf
+  entries-in = passed-tests.entries-in (day .d) (st .elevation) d-low d-high elevation-high
 
   means-in : AllTemperatures (meansOf earlier)
   unfolding meansOf

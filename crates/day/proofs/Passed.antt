@@ -14,7 +14,7 @@ use Rattle.sheet.specs.Accepted.{ReadingsInRange, EntriesInRange}
 use Rattle.tables.proofs.ValueRanges.{albedo-in, a1-in, aw-in, bw-in, pressure-in}
 use Rattle.day.specs.Calendar.{yearLength, isDate}
 use Rattle.day.specs.Rules.{anyOf, stationFaults, readingFaults, meanFault}
-use Rattle.day.specs.Judgement.{readingsOf, entriesOf, holds}
+use Rattle.day.specs.Judgement.{readingsOf, entriesAt, holds}
 use Rattle.day.specs.declared.Station.{Station}
 use Rattle.day.specs.declared.Day.{Day}
 use Rattle.day.specs.declared.Earlier.{Earlier}
@@ -101,13 +101,12 @@ module _ (st : Station) (day : Day) (earlier : Earlier) (accepted : holds OutOfR
 
 -- ---- the tables' entries
 
-pub entries-in : (st : Station) (day : Day) → 1 ≤ day .d → day .d ≤ 366 → st .elevation ≤ 3000 → EntriesInRange (entriesOf st day)
-unfolding entriesOf
-entries-in st day low high elevation =
+pub entries-in : (d elevation : ℕ) → 1 ≤ d → d ≤ 366 → elevation ≤ 3000 → EntriesInRange (entriesAt d elevation)
+entries-in d elevation low high top =
     record {
-      albedo = albedo-in (day .d) low high;
-      a1 = a1-in (day .d) low high;
-      aw = aw-in (day .d) low high;
-      bw = bw-in (day .d) low high;
-      p = pressure-in (st .elevation) elevation;
+      albedo = albedo-in d low high;
+      a1 = a1-in d low high;
+      aw = aw-in d low high;
+      bw = bw-in d low high;
+      p = pressure-in elevation top;
     }

@@ -37,15 +37,18 @@ readingsOf x =
     }
 
 -- the tables' entries at `d` and at the elevation
-unfoldable pub entriesOf : Station → Day → Entries
-entriesOf st x =
+abbrev pub entriesAt : ℕ → ℕ → Entries
+entriesAt d elevation =
     record {
-      albedo = pos (albedoAt (x .d));
-      a1 = pos (a1At (x .d));
-      aw = pos (awAt (x .d));
-      bw = pos (bwAt (x .d));
-      p = pos (pressureAt (st .elevation));
+      albedo = pos (albedoAt d);
+      a1 = pos (a1At d);
+      aw = pos (awAt d);
+      bw = pos (bwAt d);
+      p = pos (pressureAt elevation);
     }
+
+unfoldable pub entriesOf : Station → Day → Entries
+entriesOf st x = entriesAt (x .d) (st .elevation)
 
 -- the clear-day radiation Q
 unfoldable pub clearOf : Station → Day → ℤ

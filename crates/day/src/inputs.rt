@@ -7,7 +7,7 @@ ghost use Rattle.numbers.specs.Ranges.{InRange, from_to_};
 ghost use Rattle.sheet.specs.Quantities as quantities;
 ghost use Rattle.sheet.specs.Accepted.{EarlierInRange};
 ghost use Rattle.day.specs.Rules.{meanFault};
-ghost use Rattle.day.specs.Judgement.{readingsOf, entriesOf, clearOf, earlierOf};
+ghost use Rattle.day.specs.Judgement.{readingsOf, entriesAt, clearOf, earlierOf};
 ghost use Rattle.day.specs.Judgement.{countOf, tenthsOf};
 use crate::Day;
 use crate::Mean;
@@ -50,18 +50,18 @@ pub fn readings_of(day: Day) -> Readings
     }
 }
 
-// The tables' entries at the day and at the elevation.
-pub fn entries_of(station: Station, day: Day) -> Entries
-    requires { ⌜ (1 ≤ day .d) × (day .d ≤ 366) × (station .elevation ≤ 3000) ⌝ }
-    ensures { λ r. ⌜ r ≡ entriesOf station day ⌝ }
+// The tables' entries at the day d and at the elevation.
+pub fn entries_at(d: u16, elevation: u16) -> Entries
+    requires { ⌜ (1 ≤ d) × (d ≤ 366) × (elevation ≤ 3000) ⌝ }
+    ensures { λ r. ⌜ r ≡ entriesAt d elevation ⌝ }
 {
-    let d = day.d as usize;
+    let row = tables::day_table::day_row(d as usize);
     Entries {
-        albedo: wide_entry(tables::albedo(d)),
-        a1: wide_entry(tables::a1(d)),
-        aw: wide_entry(tables::aw(d)),
-        bw: wide_entry(tables::bw(d)),
-        p: wide_entry(tables::pressure(station.elevation as usize)),
+        albedo: wide_entry(row[0]),
+        a1: wide_entry(row[1]),
+        aw: wide_entry(row[2]),
+        bw: wide_entry(row[3]),
+        p: wide_entry(tables::pressure(elevation as usize)),
     }
 }
 

@@ -1,12 +1,17 @@
 // A day judged: its figure, or the first refusal that holds of it. The caller is asked nothing.
 ghost use mathlib.Core.Path.{_≡_};
-ghost use mathlib.Core.Bool.{not, false};
+ghost use mathlib.Core.Bool.{not, cond};
 ghost use mathlib.Core.List.{[], _∷_};
+ghost use lib.IntN.{natAbs};
+ghost use Rattle.numbers.specs.Ranges.{InRange};
+ghost use Rattle.sheet.specs.Accepted.{ReadingsInRange, EntriesInRange, EarlierInRange};
+ghost use Rattle.sheet.specs.Quantities as quantities;
+ghost use Rattle.sheet.specs.StepSheet as sheet;
 ghost use Rattle.day.specs.Calendar.{isDate};
 ghost use Rattle.day.specs.Rules.{anyOf, stationFaults, missingMarks, readingFaults, meanFault, orderFaults};
-ghost use Rattle.day.specs.declared.Refusal.the-variants.{StationField, BadDate, OutOfRange, AboveClear, SumBelowOne};
-ghost use Rattle.day.specs.declared.Verdict.the-variants.{Figure};
-ghost use Rattle.day.specs.Judgement.{figureOf, holds, firstOf, judged};
+ghost use Rattle.day.specs.declared.Refusal.the-variants.{AboveClear, SumBelowOne};
+ghost use Rattle.day.specs.declared.Verdict.the-variants.{Figure, Refused};
+ghost use Rattle.day.specs.Judgement.{judged};
 ghost use Rattle.day.specs.Bound.{FigureOwed};
 use crate::Day;
 use crate::Earlier;
@@ -17,13 +22,15 @@ use crate::Verdict;
 use crate::calendar::is_date;
 use crate::inputs::clear_of;
 use crate::inputs::earlier_of;
-use crate::inputs::entries_of;
+use crate::inputs::entries_at;
 use crate::inputs::readings_of;
 use crate::rules::bad_station;
 use crate::rules::mean_out_of_range;
 use crate::rules::out_of_order;
 use crate::rules::some_missing;
 use crate::rules::some_out_of_range;
+use sheet::Entries;
+use sheet::Readings;
 
 // Refusal 3.
 fn station_refused(station: Station) -> bool
@@ -98,21 +105,17 @@ fn order_refused(day: Day) -> bool
     out_of_order(day.maximum, day.minimum, day.mean, day.dewpoint)
 }
 
-// Refusals 10 and 11 and the figure: the sheet worked, once the earlier refusals are out of the way.
-fn worked(station: Station, day: Day, earlier: Earlier) -> Verdict
-    requires { ⌜ (holds StationField station day earlier ≡ false) × (holds BadDate station day earlier ≡ false) × (holds OutOfRange station day earlier ≡ false) ⌝ }
-    ensures { λ r. ⌜ r ≡ firstOf (AboveClear ∷ SumBelowOne ∷ []) (λ held. holds held station day earlier) (Figure (figureOf station day earlier)) ⌝ }
+// Refusals 10 and 11 and the figure: the sheet worked.
+fn worked(x: Readings, t: Entries, means: sheet::Earlier, q: i64) -> Verdict
+    requires { ⌜ ReadingsInRange x × EntriesInRange t × EarlierInRange means × InRange quantities.clearDay q ⌝ }
+    ensures { λ r. ⌜ r ≡ cond (sheet.aboveTwiceClear (x .radiation) q) (Refused AboveClear) (cond (sheet.sumBelowOne x t) (Refused SumBelowOne) (Figure (natAbs (sheet.figure x t means q)))) ⌝ }
 {
-    let x = readings_of(day);
-    let q = clear_of(station, day);
     if sheet::clear::above_twice_clear(x.radiation, q) {
         return Verdict::Refused(Refusal::AboveClear);
     }
-    let t = entries_of(station, day);
     if sheet::figure::sum_below_one(x, t) {
         return Verdict::Refused(Refusal::SumBelowOne);
     }
-    let means = earlier_of(earlier);
     Verdict::Figure(sheet::figure::figure(x, t, means, q) as u32)
 }
 
@@ -139,5 +142,9 @@ pub fn judge(station: Station, day: Day, earlier: Earlier) -> Verdict
     if order_refused(day) {
         return Verdict::Refused(Refusal::OutOfOrder);
     }
-    worked(station, day, earlier)
+    let x = readings_of(day);
+    let t = entries_at(day.d, station.elevation);
+    let means = earlier_of(earlier);
+    let q = clear_of(station, day);
+    worked(x, t, means, q)
 }

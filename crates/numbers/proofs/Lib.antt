@@ -18,7 +18,7 @@ pub mod RoundedRoot
 pub mod RoundedLimit
 pub mod RangeArithmetic
 pub mod RangeTests
+pub mod TableRows
 pub mod Reflection
-pub mod Newton
 pub mod WholeRoots
 pub mod WorkedChecks

@@ -1,6 +1,5 @@
 -- The definitions that contracts cite. A reader of statements needs Whole, Ranges, Ratios and Fractions; the rest serves them.
 pub mod Whole
-pub mod Newton
 pub mod Ranges
 pub mod Integers
 pub mod Rings

@@ -1,7 +1,7 @@
 -- What a test on signed numbers tells in its two branches: which arm of a `cond` is meant, and the range that is left. Assumes nothing.
 use mathlib.Core.Path.{_≡_, refl, ap}
 use mathlib.Core.Bool.{Bool, true, false, cond}
-use Prim.Native.Nat.{ℕ, suc}
+use Prim.Native.Nat.{ℕ, suc, _+_}
 use native.Mathlib.Omega.{arith}
 use lib.IntN.{ℤ, pos, negsuc, _-ℤ_, +ℤ-idl}
 use lib.Signed.{ltZ, leZ}
@@ -28,13 +28,17 @@ absolute-not-below (pos n) e = refl
 absolute-not-below (negsuc n) e = let z : _≡_ {A = ℕ} 0 1 = cc in absurd (omega arith)
 
 -- a test on the bits of a number that is not below 0
-pub is-zero : {b : ℕ} {z : ℤ} → InRange (from 0 to b) z → ofZ w64 z ≡ 0 → z ≡ pos 0
-is-zero {z = pos n} p e = ap pos e
-is-zero {z = negsuc n} p e = absurd (p .bounds)
+pub is-number : {a b k : ℕ} {z : ℤ} → InRange (from a to b) z → ofZ w64 z ≡ k → z ≡ pos k
+is-number {z = pos n} p e = ap pos e
+is-number {z = negsuc n} p e = absurd (p .bounds)
 
-pub is-some : {b : ℕ} {z : ℤ} → InRange (from 0 to b) z → (ofZ w64 z ≡ 0 → ⊥) → InRange (from 1 to b) z
-is-some {z = pos n} p e = omega arith
-is-some {z = negsuc n} p e = absurd (p .bounds)
+pub is-above : {a b : ℕ} {z : ℤ} → InRange (from a to b) z → (ofZ w64 z ≡ a → ⊥) → InRange (from a + 1 to b) z
+is-above {z = pos n} p e = omega arith
+is-above {z = negsuc n} p e = absurd (p .bounds)
+
+pub is-only : {a : ℕ} {z : ℤ} → InRange (from a to a) z → z ≡ pos a
+is-only {a} {z = pos n} p = let e : n ≡ a = omega (arith, p .bounds .0, p .bounds .1) in ap pos e
+is-only {z = negsuc n} p = absurd (p .bounds)
 
 pub positive-in : {a b : ℕ} {z : ℤ} → InRange (minus a to b) z → leZ z (pos 0) ≡ false → InRange (from 1 to b) z
 positive-in {z = pos n} p e = omega (arith, leb-false n 0 e)

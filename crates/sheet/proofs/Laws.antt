@@ -1,5 +1,5 @@
 -- Laws of the sheet's lines that its code rests on: the ranges that do not follow step by step, and the soil heat by its cases. Assumes nothing.
-use mathlib.Core.Path.{_≡_, refl}
+use mathlib.Core.Path.{_≡_}
 use mathlib.Core.Bool.{false}
 use Prim.Native.Nat.{ℕ, zero, suc, _+_, _*_, _/_, _≤_, _<_, zero-le}
 use native.Mathlib.Nat.{div-le-of-le-mul}
@@ -42,8 +42,6 @@ pub soil-none : (m z : ℤ) {k : ℤ} → k ≡ pos 0 → pos 0 ≡ soilHeat m k
 unfolding soilHeat
 soil-none m z e = rw e
 
-pub soil-some : (m k z : ℤ) → InRange (from 1 to 3) k → pos 1_885_000 *ℤ (k *ℤ m -ℤ z) ÷0 (pos 9 *ℤ k) ≡ soilHeat m k z
+pub soil-some : (m z : ℤ) {k : ℤ} (n : ℕ) → k ≡ pos (suc n) → pos 1_885_000 *ℤ (k *ℤ m -ℤ z) ÷0 (pos 9 *ℤ pos (suc n)) ≡ soilHeat m k z
 unfolding soilHeat
-soil-some m (pos zero) z p = absurd (omega arith)
-soil-some m (pos (suc k)) z p = refl
-soil-some m (negsuc k) z p = absurd (p .bounds)
+soil-some m z n e = rw e

@@ -4,6 +4,7 @@
 pub mod clear;
 pub mod figure;
 pub mod radiation;
+mod root_table;
 pub mod temperature;
 pub mod weights;
 pub mod wind;

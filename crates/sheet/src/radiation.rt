@@ -5,6 +5,7 @@ ghost use Rattle.numbers.specs.Ranges.{InRange};
 ghost use Rattle.sheet.specs.Parts as parts;
 ghost use Rattle.sheet.specs.Quantities as quantities;
 ghost use Rattle.sheet.specs.StepSheet as sheet;
+use crate::root_table::root_row;
 
 // ρ, of the radiation and the clear-day radiation.
 pub fn ratio(s: i64, q: i64) -> i64
@@ -38,13 +39,14 @@ pub fn emission(maximum: i64, minimum: i64) -> i64
     4_903 * ((high2 * high2 + low2 * low2) / 1_000_000) / 13_122_000
 }
 
-// r, of the vapour pressure at the dew point.
-pub fn root(ea: i64) -> i64
-    requires { ⌜ InRange quantities.vapourPressure ea ⌝ }
-    ensures { λ r. ⌜ (r ≡ sheet.r ea) × InRange quantities.root r ⌝ }
+// r, at the dew point.
+pub fn root(dewpoint: i64) -> i64
+    requires { ⌜ InRange quantities.temperature dewpoint ⌝ }
+    ensures { λ r. ⌜ (r ≡ sheet.r (sheet.e dewpoint)) × InRange quantities.root r ⌝ }
 {
-    let whole = numbers::whole_root((10_000_000 * ea) as u64);
-    whole as i64
+    let above = (dewpoint + 94) as usize;
+    let row = root_row(above / 4);
+    row[above % 4] as i64
 }
 
 // The emittance, which may be negative.
@@ -80,7 +82,14 @@ pub fn soil_heat(m: i64, k: i64, z: i64) -> i64
     if k == 0 {
         return 0;
     }
-    numbers::toward_zero(1_885_000 * (k * m - z), 9 * k)
+    let change = 1_885_000 * (k * m - z);
+    if k == 1 {
+        return numbers::toward_zero(change, 9);
+    }
+    if k == 2 {
+        return numbers::toward_zero(change, 18);
+    }
+    numbers::toward_zero(change, 27)
 }
 
 // H.
@@ -98,8 +107,7 @@ pub fn outgoing(maximum: i64, minimum: i64, dewpoint: i64, a1: i64, s: i64, q: i
     requires { ⌜ sheet.aboveTwiceClear s q ≡ false ⌝ }
     ensures { λ r. ⌜ (r ≡ parts.outgoing maximum minimum dewpoint a1 s q) × InRange quantities.backRadiation r ⌝ }
 {
-    let ea = crate::temperature::vapour_pressure(dewpoint);
-    let r = root(ea);
+    let r = root(dewpoint);
     let share = emittance(a1, r);
     let b = emission(maximum, minimum);
     let k = cloud_factor(s, q);

@@ -1,9 +1,7 @@
 -- The table of base + scale · sin(d + 97.92 degrees), for every π within its bounds: `albedo-entry`. Assumes nothing.
 use mathlib.Core.Path.{_≡_, sym, _∙_, ap, ap₂}
-use mathlib.Core.List.{List}
-use Prim.Native.Nat.{ℕ, _+_, _*_, _-_, _≤_}
+use Prim.Native.Nat.{ℕ, _+_, _*_}
 use lib.Dec.{T}
-use lib.ListN.{length, getD}
 use Rattle.numbers.specs.Solver.{_:+_, _:-_, _:*_, _:=_}
 use Rattle.numbers.specs.Ratios.{_over_}
 use Rattle.numbers.specs.Fractions.{ℚ, _+ℚ_, _*ℚ_, _≤ℚ_}
@@ -14,7 +12,6 @@ use Rattle.tables.specs.Series.{sinTerm}
 use Rattle.tables.specs.Tables.{angle, AlbedoEntry, albedoRange, Entry}
 use Rattle.tables.specs.Values.{Enclosure, arcSum, arcSums, albedoCurve, albedoAt}
 use Rattle.numbers.proofs.StrictOrder.{whole, whole-add, whole-mul, whole-times}
-use Rattle.tables.proofs.Table.{every}
 use Rattle.tables.proofs.Terms.{sinTerm-mono, sin-sums}
 use Rattle.tables.proofs.Sums.{SumOf}
 use Rattle.tables.proofs.SumTests.{Encloses}
@@ -58,8 +55,7 @@ arc-encloses {least} {π} {most} l h n d low high =
       at-most = sinTerm-mono (angle-nonneg (nonneg-of (≤ℚ-trans (of-nonneg n) l)) d) (angle-mono h d);
     }
 
-pub albedo-entry : (xs : List ℕ) → T (every (entryTest albedoRange albedoCurve) 1 xs) → (d : ℕ) → 1 ≤ d → d ≤ length xs →
-    Entry (albedoAt d) (AlbedoEntry d) albedoRange (getD xs (d - 1) 0)
+pub albedo-entry : (d r : ℕ) → T (entryTest albedoRange albedoCurve d r) → Entry (albedoAt d) (AlbedoEntry d) albedoRange r
 unfolding AlbedoEntry arcSums
 albedo-entry =
     curve-entry albedoRange albedoCurve (whole-times _ _ _ tt) (whole-times _ _ _ tt) AlbedoEntry

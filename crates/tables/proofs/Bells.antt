@@ -2,12 +2,10 @@
 use mathlib.Core.Path.{_≡_, sym, _∙_, ap, ap₂}
 use mathlib.Core.Logic.{Or·elim}
 use mathlib.Core.Quot.{Quot-set}
-use mathlib.Core.List.{List}
 use Prim.Native.Nat.{ℕ, _*_, _-_, _^_, _≤_}
 use native.Mathlib.Nat.{le-total}
 use native.Mathlib.Omega.{arith}
 use lib.Dec.{T}
-use lib.ListN.{length, getD}
 use Rattle.numbers.specs.Solver.{_:-_, _:*_, _:^_, _:=_}
 use Rattle.numbers.specs.Ranges.{Range}
 use Rattle.numbers.specs.Fractions.{ℚ, _*ℚ_, _-ℚ_, _^ℚ_}
@@ -18,7 +16,6 @@ use Rattle.tables.specs.Tables.{billionth, BellEntry, Entry}
 use Rattle.tables.specs.Values.{apart, Bell, bellSums, bellCurve, curveAt}
 use Rattle.numbers.proofs.StrictOrder.{whole, whole-mul, whole-sub}
 use Rattle.numbers.proofs.FractionPowers.{whole-power}
-use Rattle.tables.proofs.Table.{every}
 use Rattle.tables.proofs.Terms.{exp-sums}
 use Rattle.tables.proofs.SumTests.{Encloses}
 use Rattle.tables.proofs.Curves.{entryTest, curve-entry}
@@ -70,8 +67,7 @@ bell-encloses factor centre b h e d =
 -- the rule's base and scale are those of the bell, which has them in billionths
 pub bell-entry : (range : Range) (b : Bell) (base scale factor : ℚ) (centre : ℕ) →
     whole (b .base) *ℚ billionth ≡ base → whole (b .scale) *ℚ billionth ≡ scale → whole (b .den) *ℚ factor ≡ whole (b .num) → b .centre ≡ centre →
-    (xs : List ℕ) → T (every (entryTest range (bellCurve b)) 1 xs) → (d : ℕ) → 1 ≤ d → d ≤ length xs →
-    Entry (curveAt (bellCurve b) d) (BellEntry base scale factor centre d) range (getD xs (d - 1) 0)
+    (d r : ℕ) → T (entryTest range (bellCurve b) d r) → Entry (curveAt (bellCurve b) d) (BellEntry base scale factor centre d) range r
 unfolding BellEntry
 bell-entry range b base scale factor centre eb es ef ec =
     curve-entry range (bellCurve b) eb es (BellEntry base scale factor centre)

@@ -2,12 +2,9 @@
 -- it is nearest to base + scale · s for every series that the table's sums enclose. Assumes nothing.
 use mathlib.Core.Path.{_≡_, subst₂}
 use mathlib.Core.Bool.{Bool, _&&_}
-use mathlib.Core.List.{List}
-use Prim.Native.Nat.{ℕ, suc, _-_, _≤_}
-use native.Mathlib.Omega.{arith}
+use Prim.Native.Nat.{ℕ, suc}
 use lib.Dec.{T, eqb, eqb→eq}
 use lib.IntN.{pos}
-use lib.ListN.{length, getD}
 use Rattle.numbers.specs.Ranges.{Range, inRange}
 use Rattle.numbers.specs.Fractions.{ℚ, _+ℚ_, _*ℚ_}
 use Rattle.numbers.proofs.Order.{nonneg-mul, nonneg-ratio, <ℚ-ratio}
@@ -18,7 +15,6 @@ use Rattle.tables.specs.Values.{Enclosure, Curve, rounded, curveAt}
 use Rattle.numbers.proofs.StrictOrder.{whole}
 use Rattle.numbers.proofs.RangeArithmetic.{both}
 use Rattle.numbers.proofs.RangeTests.{test-in-range}
-use Rattle.tables.proofs.Table.{every, entry-passes}
 use Rattle.tables.proofs.Nearest.{nearest-between}
 use Rattle.tables.proofs.SumTests.{nearTest, Encloses, sum-nearest}
 
@@ -53,15 +49,12 @@ curve-nearest c d r test e =
 pub curve-entry : (range : Range) (c : Curve) {base scale : ℚ} → whole (c .base) *ℚ billionth ≡ base → whole (c .scale) *ℚ billionth ≡ scale →
     (Rule : ℕ → ℕ → Type 0) →
     ((d r : ℕ) → ((t : ℕ → ℚ) → Encloses (c .sums d) t → NearestOfSeries billionth r (λ s. base +ℚ scale *ℚ s) t) → Rule d r) →
-    (xs : List ℕ) → T (every (entryTest range c) 1 xs) → (d : ℕ) → 1 ≤ d → d ≤ length xs →
-    Entry (curveAt c d) (Rule d) range (getD xs (d - 1) 0)
+    (d r : ℕ) → T (entryTest range c d r) → Entry (curveAt c d) (Rule d) range r
 unfolding entryTest curveAt
-curve-entry range c b s Rule rule xs test d l h =
-    let r : ℕ = getD xs (d - 1) 0 in
-    let passed = entry-passes (entryTest range c) 1 xs test (d - 1) d (omega arith) (omega arith) in
+curve-entry range c b s Rule rule d r test =
     let value = valueTest c r (c .sums d (c .place)) in
     let places = placesTest c r (c .sums d (c .place)) (c .sums d (suc (c .place))) in
-    let ranged = both (inRange range (pos r)) (value && places) passed in
+    let ranged = both (inRange range (pos r)) (value && places) test in
     let valued = both value places (ranged .1) in
     record {
       is-value = eqb→eq r (curveAt c d) (valued .0);

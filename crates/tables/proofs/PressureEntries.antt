@@ -3,13 +3,11 @@
 use mathlib.Core.Path.{_≡_, refl, sym, _∙_, ap, subst}
 use mathlib.Core.Logic.{⊎-elim}
 use mathlib.Core.Bool.{Bool, true, false, _&&_, cond}
-use mathlib.Core.List.{List}
 use Prim.Native.Nat.{ℕ, zero, suc, _+_, _*_, _-_, _^_, _≤_, _<_}
 use native.Mathlib.Nat.{mul-le-mul, mul-le-mul-right, pow-le-pow-left, lt-irrefl, lt-of-lt-of-le, lt-trans, eq-or-lt-of-le}
 use native.Mathlib.Omega.{arith}
 use lib.Dec.{T, ltb, ltb→lt, lt→ltb, lit<}
 use lib.IntN.{pos}
-use lib.ListN.{length, getD}
 use Rattle.numbers.specs.Solver.{_:+_, _:-_, _:*_, _:=_}
 use Rattle.numbers.specs.Ratios.{Ratio, _over_, _*ᴿ_, eqᴿ}
 use Rattle.numbers.specs.Ranges.{InRange, inRange}
@@ -21,7 +19,6 @@ use Rattle.numbers.proofs.StrictOrder.{whole, whole-mul, whole-odd, whole-sub, 
 use Rattle.numbers.proofs.FractionPowers.{powers-below}
 use Rattle.numbers.proofs.RangeArithmetic.{both}
 use Rattle.numbers.proofs.RangeTests.{test-in-range}
-use Rattle.tables.proofs.Table.{every, entry-passes}
 use Rattle.tables.proofs.PowerTests.{NearestPower, powerTest, power-nearest}
 
 -- ---- the value: the first number that is not too small
@@ -90,7 +87,7 @@ pressure-rule e r h p near =
           (ratio-is e h) (doubled _ tt _ ∙ half-more r) (near .high);
     }
 
--- ---- the table
+-- ---- an entry
 
 abbrev pub fixedTest : ℕ → ℕ → Bool
 fixedTest e r = powerTest 100000000000000000000 seaLevel (ratioNumerator e) ratioDenominator r
@@ -106,12 +103,10 @@ pub pressure-is : (e r : ℕ) → e ≤ 3000 → T (fixedTest e r) → r ≡ pre
 unfolding pressureAt
 pressure-is e r l t = sym (first-nearest seaLevel (ratioNumerator e) ratioDenominator 5257 r (omega arith) (pressure-nearest e r l t))
 
-pub pressure-entry : (xs : List ℕ) → T (every pressureTest 0 xs) → (e : ℕ) → e ≤ 3000 → e < length xs →
-    Entry (pressureAt e) (PressureEntry e) pressureRange (getD xs e 0)
+pub pressure-entry : (e r : ℕ) → e ≤ 3000 → T (pressureTest e r) → Entry (pressureAt e) (PressureEntry e) pressureRange r
 unfolding pressureTest
-pressure-entry xs test e l h =
-    let r : ℕ = getD xs e 0 in
-    let passed = both (inRange pressureRange (pos r)) (fixedTest e r) (entry-passes pressureTest 0 xs test e e (omega arith) h) in
+pressure-entry e r l test =
+    let passed = both (inRange pressureRange (pos r)) (fixedTest e r) test in
     let ranged : InRange pressureRange (pos r) = test-in-range pressureRange (pos r) (passed .0) in
     record {
       is-value = pressure-is e r l (passed .1);

@@ -1,10 +1,13 @@
 -- What each entry of the five constant tables is: the published formulas, in document 01's order. Assumes nothing.
 use mathlib.Core.Path.{_≡_}
-use Prim.Native.Nat.{ℕ}
+use mathlib.Core.List.{List}
+use Prim.Native.Nat.{ℕ, _+_, _<_, _≤_}
 use lib.IntN.{pos}
+use lib.ListN.{length, getD}
 use Rattle.numbers.specs.Ranges.{Range, InRange, from_to_}
 use Rattle.numbers.specs.Fractions.{ℚ, fromℤ, _/ℚ_, _+ℚ_, _-ℚ_, _*ℚ_, _^ℚ_, _≤ℚ_, _<ℚ_}
 use Rattle.tables.specs.Series.{expTerm, sinTerm, NearestOfSeries}
+use Rattle.tables.specs.Values.{albedoAt, a1At, awAt, bwAt, pressureAt}
 
 -- the unit of the four day tables
 abbrev pub billionth : ℚ
@@ -76,3 +79,17 @@ bwRange = from 7000000 to 11000000
 
 abbrev pub pressureRange : Range
 pressureRange = from 700000 to 1013000
+
+-- ---- what a row holds
+
+-- the four entries of the day d
+pub record DayRow (d : ℕ) (r : List ℕ) : Type 0 where
+  pub albedo : Entry (albedoAt d) (AlbedoEntry d) albedoRange (getD r 0 0)
+  pub a1 : Entry (a1At d) (A1Entry d) a1Range (getD r 1 0)
+  pub aw : Entry (awAt d) (AwEntry d) awRange (getD r 2 0)
+  pub bw : Entry (bwAt d) (BwEntry d) bwRange (getD r 3 0)
+
+-- the pressures of the metres from `start` on, as far as 3,000
+pub record PressureRow (start : ℕ) (r : List ℕ) : Type 0 where
+  pub entries : (i : ℕ) → i < length r → start + i ≤ 3000 →
+      Entry (pressureAt (start + i)) (PressureEntry (start + i)) pressureRange (getD r i 0)

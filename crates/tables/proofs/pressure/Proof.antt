@@ -1,22 +1,22 @@
--- `tables::pressure` meets its contract: the rule of the table, by a test at each of its entries that antt computes.
--- The table is read off the function's own code. Assumes nothing.
+-- `tables::pressure` meets its contract: the entry of its row. Assumes nothing.
+use mathlib.Core.Path.{_≡_, subst}
+use Prim.Native.Nat.{ℕ, _+_, _*_, _/_, _%_}
+use native.Mathlib.Omega.{arith}
 use borrow.Author.Needs.{needs}
-use Rattle.tables.proofs.PowerTests.{powerTest, upper, lower, tenthUp, tenthDown}
-use Rattle.tables.proofs.PressureEntries.{pressureTest, pressure-entry}
+use lib.ListN.{getD}
+use Rattle.tables.specs.Tables.{PressureEntry, pressureRange, Entry}
+use Rattle.tables.specs.Values.{pressureAt}
 use Rattle.tables.proofs.pressure.Statement.{statement}
 use Rattle.tables.proofs.pressure.Tie as tie
-use Rattle.tables.proofs.pressure.Reads as reads
-use Rattle.tables.proofs.pressure.Lts as lts
 
-mul-result : tie.Need-mul-result
-mul-result c = search needs
-
-array-read-result : tie.Need-array-read-result
-array-read-result c = search needs
+parted : (e : ℕ) → 8 * (e / 8) + e % 8 ≡ e
+parted e = omega arith
 
 returns : tie.Need-returns
-unfolding pressureTest powerTest upper lower tenthUp tenthDown
-returns c = pressure-entry (lts.m2 reads.Pre reads.Post (c .args) (c .blocks) .1 .1 .0) tt (c .args .e) (search needs) (search needs)
+returns c =
+    let e : ℕ = c .before .args .e in
+    subst (λ (k : ℕ). Entry (pressureAt k) (PressureEntry k) pressureRange (getD (c .pressure-row .result) (e % 8) 0)) (parted e)
+    (c .pressure-row .ensures .entries (e % 8) (search needs) (omega (arith, c .before .pre)))
 
 pub pressure-spec : {M : Type 1} → statement M
-pressure-spec = tie.close (tie.spec mul-result array-read-result returns)
+pressure-spec = tie.close (tie.spec (λ c κs. search needs) (λ c. search needs) (λ c. search needs) returns)

@@ -11,14 +11,13 @@ returns c =
     let cloud = c .before in
     let emitted = cloud .before in
     let share = emitted .before in
-    let square = share .before in
-    let dew = square .before in
-    let s = dew .before in (
+    let root = share .before in
+    let s = root .before in (
       given-back (c .back-radiation .ensures) tt
           ∙ ap₃ Rb
           (given-back (share .emittance .ensures) tt
           ∙ ap₂ emittance (read (s .pre .1 .0 .0) tt)
-          (given-back (square .root .ensures) tt ∙ ap r (given-back (dew .vapour-pressure .ensures) tt ∙ ap e (read (s .pre .0 .2) tt))))
+          (given-back (root .root .ensures) tt ∙ ap (λ f. r (e f)) (read (s .pre .0 .2) tt)))
           (given-back (emitted .emission .ensures) tt ∙ ap₂ B (read (s .pre .0 .0) tt) (read (s .pre .0 .1) tt))
           (given-back (cloud .cloud-factor .ensures) tt ∙ ap₂ K (read (s .pre .1 .0 .1) tt) (read (s .pre .1 .0 .2) tt)),
       search needs,
@@ -28,7 +27,6 @@ pub outgoing-spec : {M : Type 1} → statement M
 outgoing-spec =
     tie.close
     (tie.spec
-    (λ c κs. search needs)
     (λ c κs. search needs)
     (λ c κs. search needs)
     (λ c κs. search needs)
