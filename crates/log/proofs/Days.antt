@@ -9,7 +9,6 @@ use lib.Seq.{take-at, drop-at}
 use Rattle.day.specs.Calendar.{isDate}
 use Rattle.day.specs.declared.Day.{Day}
 use Rattle.day.specs.declared.Earlier.{Earlier}
-use Rattle.day.specs.declared.Mean.{Mean}
 use Rattle.day.specs.declared.Station.{Station}
 use Rattle.log.specs.Answers.{dayAnswer, verdictOf}
 use Rattle.log.specs.Days.{DayAt, verdictAt}
@@ -17,7 +16,7 @@ use Rattle.log.specs.History.{afterLast, goodDate}
 use Rattle.log.specs.Log.{day, answersOf, Reading, entriesOf, readingOf, outcomeOf, leaves, bufferAfter}
 use Rattle.log.specs.declared.Outcome.{Outcome}
 use Rattle.log.specs.declared.Outcome.the-variants.{Written}
-use Rattle.log.proofs.Along.{answers-append}
+use Rattle.log.proofs.Walked.{answers-append}
 
 -- ---- the answer
 

@@ -5,7 +5,9 @@ pub mod Overwriting
 pub mod Calendar
 pub mod Carried
 pub mod Placed
+pub mod Walked
 pub mod Along
+pub mod Glances
 pub mod HandedBack
 pub mod RecordCases
 pub mod Stations
@@ -14,3 +16,4 @@ pub mod Demand
 pub mod Sample
 pub mod WorkedLog
 pub mod Steps
+pub mod OutcomeSize

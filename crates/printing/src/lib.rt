@@ -1,5 +1,4 @@
 // The report of a log on standard output: a line for each of its days, or one line where it is refused.
-ghost use Prim.Native.Nat.{_+_, _<_};
 ghost use mathlib.Core.Path.{_≡_};
 ghost use Rattle.log.specs.Log.{bufferAfter};
 use day::Code;
