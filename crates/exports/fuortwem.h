@@ -1,0 +1,104 @@
+/* Reference water use of a station day, for C and C++: a day judged alone, and a log read whole.
+ *
+ * Link with libexports.a, which `rt staticlib exports` writes to target/staticlib. docs/LINKING.md has a program.
+ *
+ * Both functions return two numbers of 32 bits in one of 64: fuortwem_number takes out the high half, fuortwem_value the low one.
+ * The high half is the number of the refusal, or 0 if there is none. The numbers:
+ *
+ *    1   log: a record's kind is neither 1 nor 2
+ *    2   log: it ends inside a record
+ *    3   log or day alone: a field of the station is out of range: a letter of the code, the clear-day minimum or the elevation
+ *    4   log: a day before any station
+ *    5   log: it is over 65,536 bytes
+ *    6   day: no date of the years 1950 to 2099 or, in a log, not after the block's last good date
+ *    7   day: one of the six readings is missing
+ *    8   day: a reading is out of range; of a day alone, also an earlier mean that is there
+ *    9   day: minimum above mean, mean above maximum, or dew point above maximum
+ *   10   day: radiation above twice that of a clear day
+ *   11   day: the slope of the vapour pressure curve and the psychrometric constant, D + g, are below 1 (cannot happen with readings in range)
+ *   12   log: the answer buffer is shorter than needed
+ *
+ * Neither function allocates or keeps anything from one call to the next: both may be called from several threads at once. */
+#ifndef FUORTWEM_H
+#define FUORTWEM_H
+
+#include <stdbool.h>
+#include <stddef.h>
+#include <stdint.h>
+
+/* A reading that is missing. It counts in the six readings of a day only. */
+#define FUORTWEM_MISSING INT16_MIN
+
+/* The refusal's number of what either function returned: 0 for none. */
+static inline uint32_t fuortwem_number(uint64_t returned) {
+    return (uint32_t)(returned >> 32);
+}
+
+/* The value of what either function returned: the low half. */
+static inline uint32_t fuortwem_value(uint64_t returned) {
+    return (uint32_t)returned;
+}
+
+#ifdef __cplusplus
+extern "C" {
+#endif
+
+/* Judges one day, handed in with its station and up to three earlier means.
+ *
+ * Returned, for every value of the arguments:
+ *
+ *   number 0                       the day has a figure: the value is the water used, in 0.0001 inch
+ *   number 3, 6, 7, 8, 9, 10, 11   the first of these, in this order, that holds of the day; the value is 0
+ *
+ * Station: its code's four letters, A to Z, as ASCII; c1 to c5 of its clear-day radiation, in units of 1, 0.001, 0.0001, 0.000001 and
+ * 0.000000001 cal/cm2/d, any value; the clear-day minimum in cal/cm2/d, 50 to 200; the elevation in metres, 0 to 3,000.
+ * Day: the year, 1950 to 2099; d, the day of the year, 1 to 365, or 366 in a leap year; maximum, minimum, mean and dew point in tenths of
+ * a degree Fahrenheit, -94 to 1,291; solar radiation in tenths of a cal/cm2/d, 0 to 12,000; wind run in tenths of a mile a day, 0 to 9,999.
+ * A reading that is missing is -32,768 (FUORTWEM_MISSING).
+ * Earlier means: of the three calendar days before, the nearest day first, in tenths of a degree Fahrenheit. has_one, has_two and has_three
+ * tell whether each is there; one that is not there is not looked at. One that is there has the range of the other temperatures.
+ *
+ * Nothing is asked of the caller: every range is checked here, and there are no pointers. A language without a bool passes a byte 0 or 1. */
+uint64_t fuortwem_judge(
+    uint8_t first, uint8_t second, uint8_t third, uint8_t fourth,
+    int16_t c1, int16_t c2, int16_t c3, int16_t c4, int16_t c5,
+    uint16_t clear_minimum, uint16_t elevation,
+    uint16_t year, uint16_t d,
+    int16_t maximum, int16_t minimum, int16_t mean, int16_t dewpoint, int16_t radiation, int16_t wind,
+    bool has_one, int16_t one, bool has_two, int16_t two, bool has_three, int16_t three);
+
+/* Reads a log to its end and writes an answer for each record to the front of the answer buffer, in log order, or refuses the log.
+ *
+ * Returned, for every log and every length of the buffer:
+ *
+ *   number 0            the log is accepted: the value is the length written, and the bytes after it stay as they were
+ *   number 1, 2, 3, 4   the first record with a fault: the value is the offset in the log of its kind byte
+ *   number 5            the log is too long: the value is 0
+ *   number 12           the answer buffer is too short: the value is the length needed
+ *
+ * 5 is looked for first, then the records from the front, each for 1, 2, 3 and 4 in this order, then 12.
+ * A refused log leaves every byte of the answer buffer as it was. Refusals 6 to 11 of a day stand in its answer, and the log goes on.
+ *
+ * In the log and in the answers, numbers of two or four bytes have the high byte first. A record of the log:
+ *
+ *   kind 1, station, 19 bytes with the kind: code (4 bytes), c1 to c5 (2 each, signed), clear-day minimum (2), elevation (2)
+ *   kind 2, day, 17 bytes: year (2), d (2), maximum, minimum, mean, dew point, radiation, wind (2 each, signed)
+ *
+ * An answer, all numbers unsigned:
+ *
+ *   kind 5, station, 5 bytes: code (4)
+ *   kind 3, day with a figure, 9 bytes: year (2), d (2), figure in 0.0001 inch (4)
+ *   kind 4, day refused, 9 bytes: year (2), d (2), the refusal's number, 6 to 11 (4)
+ *
+ * An answer is shorter than its record, so a buffer of 65,536 bytes is enough for every log.
+ *
+ * Asked of the caller: `log` may be read for `log_length` bytes, and `answers` read and written for `answers_length` bytes, during the whole
+ * call; the two do not overlap; nothing else writes to the log or touches the answers meanwhile; neither pointer is NULL, even where its
+ * length is 0. Everything else is checked here: the bytes of the log may be any. */
+uint64_t fuortwem_read_log(const uint8_t *log, size_t log_length, uint8_t *answers, size_t answers_length);
+
+#ifdef __cplusplus
+}
+#endif
+
+#endif

@@ -1,0 +1,115 @@
+// The judge of days and the reader of logs for programs in other languages, over numbers and byte slices alone. fuortwem.h declares them.
+ghost use mathlib.Core.Path.{_≡_};
+ghost use lib.ListN.{length};
+ghost use Rattle.day.specs.Judgement.{judged};
+ghost use Rattle.log.specs.Demand.{FiguresOwed};
+ghost use Rattle.log.specs.Log.{outcomeOf, bufferAfter};
+ghost use Rattle.exports.specs.HandedIn.{stationOf, dayOf, meanOf, earlierOf};
+ghost use Rattle.exports.specs.Returned.{said, saidBy, verdictSaid, outcomeSaid, FigureSaid};
+use day::Code;
+use day::Day;
+use day::Earlier;
+use day::Mean;
+use day::Station;
+use day::Verdict;
+use log::Outcome;
+
+// A refusal's number, 0 for none, in the high half, and a value in the low half.
+fn packed(number: u32, value: u32) -> u64
+    ensures { λ r. ⌜ saidBy r ≡ said number value ⌝ }
+{
+    (number as u64) * 4_294_967_296 + (value as u64)
+}
+
+// An earlier mean, if there is one.
+fn mean_of(present: bool, tenths: i16) -> Mean
+    ensures { λ r. ⌜ r ≡ meanOf present tenths ⌝ }
+{
+    if present {
+        return Mean::Present(tenths);
+    }
+    Mean::Absent
+}
+
+// A day handed in alone. The high half of the result is the refusal's number, 0 for none; the low half is then the figure.
+#[no_mangle]
+pub extern "C" fn fuortwem_judge(
+    first: u8,
+    second: u8,
+    third: u8,
+    fourth: u8,
+    c1: i16,
+    c2: i16,
+    c3: i16,
+    c4: i16,
+    c5: i16,
+    clear_minimum: u16,
+    elevation: u16,
+    year: u16,
+    d: u16,
+    maximum: i16,
+    minimum: i16,
+    mean: i16,
+    dewpoint: i16,
+    radiation: i16,
+    wind: i16,
+    has_one: bool,
+    one: i16,
+    has_two: bool,
+    two: i16,
+    has_three: bool,
+    three: i16,
+) -> u64
+    ensures { λ r. ⌜ saidBy r ≡ verdictSaid (judged (stationOf first second third fourth c1 c2 c3 c4 c5 «clear_minimum» elevation) (dayOf year d maximum minimum mean dewpoint radiation wind) (earlierOf «has_one» one «has_two» two «has_three» three)) ⌝ }
+    ensures { λ r. ⌜ FigureSaid (stationOf first second third fourth c1 c2 c3 c4 c5 «clear_minimum» elevation) (dayOf year d maximum minimum mean dewpoint radiation wind) (earlierOf «has_one» one «has_two» two «has_three» three) r ⌝ }
+{
+    let code = Code {
+        first,
+        second,
+        third,
+        fourth,
+    };
+    let station = Station {
+        code,
+        c1,
+        c2,
+        c3,
+        c4,
+        c5,
+        minimum: clear_minimum,
+        elevation,
+    };
+    let day = Day {
+        year,
+        d,
+        maximum,
+        minimum,
+        mean,
+        dewpoint,
+        radiation,
+        wind,
+    };
+    let earlier = Earlier {
+        one: mean_of(has_one, one),
+        two: mean_of(has_two, two),
+        three: mean_of(has_three, three),
+    };
+    match day::judge::judge(station, day, earlier) {
+        Verdict::Figure(n) => packed(0, n),
+        Verdict::Refused(why) => packed(why.number(), 0),
+    }
+}
+
+// A log read to its end or refused. The high half of the result is the refusal's number, 0 for none; the low half is the length written, the
+// offset of the record refused or, for 12, the length needed.
+#[no_mangle]
+pub extern "C" fn fuortwem_read_log(log: &[u8], answers: &mut [u8]) -> u64
+    ensures { λ r. ⌜ saidBy r ≡ outcomeSaid (outcomeOf (now (log .entry)) (length (now (answers .entry)))) ⌝ }
+    ensures { λ _. ⌜ now (answers .exit) ≡ bufferAfter (now (log .entry)) (now (answers .entry)) ⌝ }
+    ensures { λ _. ⌜ FiguresOwed (now (log .entry)) (now (answers .entry)) (now (answers .exit)) ⌝ }
+{
+    match log::read_log(log, answers) {
+        Outcome::Written(n) => packed(0, n as u32),
+        Outcome::Refused(k, place) => packed(k as u32, place as u32),
+    }
+}
