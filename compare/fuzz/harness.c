@@ -1,0 +1,278 @@
+/* Hands the bytes of standard input to the proved library and aborts if a promise of read_log is broken.
+ *
+ * The first two bytes choose the answer buffer's length, the rest is the log. Each input is read in several placements:
+ * log and answer buffer end at a page that may not be touched; then they begin right after one; then, when files are
+ * named on the command line instead, both lie in heap blocks of their exact size, for valgrind or AddressSanitizer.
+ * The log is mapped read-only.
+ *
+ * Under AFL++ this program is its own fork server and takes many inputs in one process; run by hand it takes one. */
+#define _GNU_SOURCE
+#include <signal.h>
+#include <stdbool.h>
+#include <stdint.h>
+#include <stdio.h>
+#include <stdlib.h>
+#include <string.h>
+#include <sys/mman.h>
+#include <sys/wait.h>
+#include <unistd.h>
+
+#include "fuortwem.h"
+
+enum {
+    PAGE = 4096,
+    LONGEST_LOG = 65536,
+    /* A log refused as too long, with room to spare. */
+    LOG_ROOM = LONGEST_LOG + 2 * PAGE,
+    ANSWER_ROOM = 32 * PAGE,
+    STATION_LENGTH = 19,
+    DAY_LENGTH = 17,
+    STATION_ANSWER_LENGTH = 5,
+    DAY_ANSWER_LENGTH = 9,
+    TOO_SHORT_A_BUFFER = 12,
+    INPUTS_A_PROCESS = 2000,
+    /* The two descriptors on which AFL++ speaks to a fork server. */
+    CONTROL = 198,
+    STATUS = 199,
+};
+
+static void require(bool holds, const char *promise) {
+    if (!holds) {
+        fprintf(stderr, "broken promise: %s\n", promise);
+        abort();
+    }
+}
+
+/* Memory between two pages that may not be touched; `shown` is how the library sees it, `written` how the harness does. */
+struct region {
+    uint8_t *shown;
+    uint8_t *written;
+    size_t size;
+};
+
+static struct region guarded(size_t size, int protection) {
+    int file = memfd_create("region", 0);
+    require(file >= 0 && ftruncate(file, (off_t)size) == 0, "memory for the harness");
+    uint8_t *around = mmap(NULL, size + 2 * PAGE, PROT_NONE, MAP_PRIVATE | MAP_ANONYMOUS, -1, 0);
+    require(around != MAP_FAILED, "memory for the harness");
+    uint8_t *shown = mmap(around + PAGE, size, protection, MAP_SHARED | MAP_FIXED, file, 0);
+    uint8_t *written = mmap(NULL, size, PROT_READ | PROT_WRITE, MAP_SHARED, file, 0);
+    require(shown != MAP_FAILED && written != MAP_FAILED, "memory for the harness");
+    close(file);
+    return (struct region){shown, written, size};
+}
+
+static struct region log_region, answer_region;
+
+static uint32_t refusal(uint64_t returned) { return (uint32_t)(returned >> 32); }
+static uint32_t value(uint64_t returned) { return (uint32_t)returned; }
+
+static uint32_t number(const uint8_t *bytes, int width) {
+    uint32_t whole = 0;
+    for (int i = 0; i < width; i++) {
+        whole = whole << 8 | bytes[i];
+    }
+    return whole;
+}
+
+static uint16_t plain(const uint8_t *bytes) { return (uint16_t)number(bytes, 2); }
+static int16_t tenths(const uint8_t *bytes) { return (int16_t)number(bytes, 2); }
+
+/* The first day of a block has no earlier means and no earlier date: handed in alone it must be answered the same. */
+static void judge_first_day(const uint8_t *station, const uint8_t *day, const uint8_t *answer) {
+    const uint8_t *s = station + 1, *d = day + 1;
+    uint64_t returned = fuortwem_judge(
+        s[0], s[1], s[2], s[3], tenths(s + 4), tenths(s + 6), tenths(s + 8), tenths(s + 10), tenths(s + 12), plain(s + 14),
+        plain(s + 16), plain(d), plain(d + 2), tenths(d + 4), tenths(d + 6), tenths(d + 8), tenths(d + 10), tenths(d + 12),
+        tenths(d + 14), false, 0, false, 0, false, 0);
+    uint32_t kind = refusal(returned) == 0 ? 3 : 4;
+    uint32_t verdict = refusal(returned) == 0 ? value(returned) : refusal(returned);
+    require(answer[0] == kind && memcmp(answer + 1, d, 4) == 0, "a day's answer begins with its kind and date");
+    require(number(answer + 5, 4) == verdict, "a block's first day is answered as when handed in alone");
+}
+
+/* The answers stand in log order and fill the length exactly. */
+static void check_answers(const uint8_t *log, size_t log_length, const uint8_t *answers, size_t length) {
+    const uint8_t *end = log + log_length, *station = NULL, *answer = answers;
+    bool first = false;
+    while (log < end) {
+        if (log[0] == 1) {
+            require(answer[0] == 5 && memcmp(answer + 1, log + 1, 4) == 0, "a station's answer is its code");
+            station = log;
+            first = true;
+            log += STATION_LENGTH;
+            answer += STATION_ANSWER_LENGTH;
+        } else {
+            if (first) {
+                judge_first_day(station, log, answer);
+            }
+            first = false;
+            log += DAY_LENGTH;
+            answer += DAY_ANSWER_LENGTH;
+        }
+    }
+    require((size_t)(answer - answers) == length, "the length is that of the answers");
+}
+
+/* A byte of the answer buffer before it is lent: another one in each pass, so that a byte left alone is seen. */
+static uint8_t filler(size_t place, uint8_t pass) { return (uint8_t)(place * 7 + pass); }
+
+static void require_filler(const uint8_t *bytes, size_t from, size_t to, uint8_t pass) {
+    for (size_t i = from; i < to; i++) {
+        require(bytes[i] == filler(i, pass), "bytes outside the answers stay as they were");
+    }
+}
+
+/* One pass over a whole block of memory, of which `answers` lends `length` bytes. Returns what the library returned. */
+static uint64_t run(const uint8_t *log, size_t log_length, uint8_t *block, size_t size, uint8_t *answers, size_t length,
+                    uint8_t pass) {
+    for (size_t i = 0; i < size; i++) {
+        block[i] = filler(i, pass);
+    }
+    uint64_t returned = fuortwem_read_log(log, log_length, answers, length);
+    size_t start = (size_t)(answers - block);
+    size_t wrote = refusal(returned) == 0 ? value(returned) : 0;
+    require(wrote <= length, "no more is written than was lent");
+    require_filler(block, 0, start, pass);
+    require_filler(block, start + wrote, size, pass);
+    return returned;
+}
+
+/* The length that the first two bytes ask for, of an answer buffer that needs `needed` bytes. */
+static size_t chosen_length(uint32_t choice, size_t needed) {
+    size_t step = choice >> 2;
+    size_t length = step;
+    switch (choice & 3) {
+    case 0: length = needed; break;
+    case 1: length = needed - (needed == 0 ? 0 : 1 + step % needed); break;
+    case 2: length = needed + step; break;
+    }
+    return length < ANSWER_ROOM ? length : ANSWER_ROOM;
+}
+
+static void run_in_heap(const uint8_t *log, size_t log_length, size_t length, uint64_t expected) {
+    uint8_t *copy = malloc(log_length), *answers = malloc(length);
+    memcpy(copy, log, log_length);
+    require(run(copy, log_length, answers, length, answers, length, 3) == expected, "the same log gets the same result");
+    free(copy);
+    free(answers);
+}
+
+static void try_input(const uint8_t *input, size_t size, bool in_heap) {
+    if (size < 2) {
+        return;
+    }
+    uint32_t choice = number(input, 2);
+    const uint8_t *log = input + 2;
+    size_t log_length = size - 2 < LOG_ROOM ? size - 2 : LOG_ROOM;
+
+    uint8_t *last_log = log_region.shown + (log_region.size - log_length);
+    memcpy(log_region.written + (log_region.size - log_length), log, log_length);
+    uint8_t *end = answer_region.shown + answer_region.size;
+    uint64_t unlent = fuortwem_read_log(last_log, log_length, end, 0);
+    bool sound = refusal(unlent) == 0 || refusal(unlent) == TOO_SHORT_A_BUFFER;
+    require(refusal(unlent) <= 5 || refusal(unlent) == TOO_SHORT_A_BUFFER, "a log's refusal is 1 to 5 or 12");
+    require((refusal(unlent) == 0) == (log_length == 0), "without a buffer only the empty log is accepted");
+
+    size_t needed = sound ? value(unlent) : 0;
+    size_t length = chosen_length(choice, needed);
+    uint64_t expected = sound && length >= needed ? needed : unlent;
+    /* Enough of the memory around the answers to see a write that strays, without filling all of it for every input. */
+    size_t watched = length + 64 < answer_region.size ? length + 64 : answer_region.size;
+
+    uint8_t *last = end - length;
+    uint64_t returned = run(last_log, log_length, end - watched, watched, last, length, 1);
+    require(returned == expected, "refused as without a buffer, or accepted once the buffer is long enough");
+    size_t wrote = refusal(returned) == 0 ? value(returned) : 0;
+    check_answers(last_log, refusal(returned) == 0 ? log_length : 0, last, wrote);
+    static uint8_t kept[ANSWER_ROOM];
+    memcpy(kept, last, wrote);
+
+    memcpy(log_region.written, log, log_length);
+    uint8_t *first = answer_region.shown;
+    returned = run(log_region.shown, log_length, first, watched, first, length, 2);
+    require(returned == expected && memcmp(kept, first, wrote) == 0, "the same log gets the same answers");
+
+    if (in_heap) {
+        run_in_heap(log, log_length, length, expected);
+    }
+}
+
+static uint8_t input[2 + LOG_ROOM];
+
+static size_t read_whole(FILE *file) { return fread(input, 1, sizeof input, file); }
+
+static size_t read_descriptor(void) {
+    size_t size = 0;
+    ssize_t more;
+    while (size < sizeof input && (more = read(STDIN_FILENO, input + size, sizeof input - size)) > 0) {
+        size += (size_t)more;
+    }
+    return size;
+}
+
+/* In the process of the inputs: stop after each, and go on when the fork server says so. */
+static void take_inputs(void) {
+    for (int i = 0; i < INPUTS_A_PROCESS; i++) {
+        try_input(input, read_descriptor(), false);
+        if (i + 1 < INPUTS_A_PROCESS) {
+            raise(SIGSTOP);
+        }
+    }
+}
+
+/* AFL++'s protocol: for each input four bytes come in, the process and then its status go out. */
+static void serve(void) {
+    pid_t child = -1;
+    bool stopped = false;
+    int32_t killed;
+    while (read(CONTROL, &killed, 4) == 4) {
+        int status;
+        if (stopped && killed) {
+            waitpid(child, &status, 0);
+            stopped = false;
+        }
+        if (stopped) {
+            kill(child, SIGCONT);
+        } else {
+            child = fork();
+            require(child >= 0, "a process for the harness");
+            if (child == 0) {
+                close(CONTROL);
+                close(STATUS);
+                take_inputs();
+                _exit(0);
+            }
+        }
+        int32_t process = child;
+        if (write(STATUS, &process, 4) != 4 || waitpid(child, &status, WUNTRACED) < 0) {
+            return;
+        }
+        stopped = WIFSTOPPED(status);
+        if (write(STATUS, &status, 4) != 4) {
+            return;
+        }
+    }
+}
+
+int main(int count, char **arguments) {
+    log_region = guarded(LOG_ROOM, PROT_READ);
+    answer_region = guarded(ANSWER_ROOM, PROT_READ | PROT_WRITE);
+    for (int i = 1; i < count; i++) {
+        FILE *file = fopen(arguments[i], "rb");
+        require(file != NULL, "a file that can be read");
+        size_t size = read_whole(file);
+        fclose(file);
+        try_input(input, size, true);
+    }
+    if (count > 1) {
+        return 0;
+    }
+    int32_t hello = 0;
+    if (write(STATUS, &hello, 4) == 4) {
+        serve();
+    } else {
+        try_input(input, read_descriptor(), false);
+    }
+    return 0;
+}

@@ -1,0 +1,494 @@
+//! Compares the proved library and its report program with the second implementation, with the unrounded equation
+//! and with the published routine: `compare short` or `compare long`. The first difference ends the run.
+//! The environment variable REPORT_PROGRAM names a report program other than ../target/bin/report.
+use compare::days::{self, Case, Random};
+use compare::routine::{self, Known};
+use compare::{equation, office, second, table_text, Outcome, Verdict};
+use std::io::{ErrorKind, Write};
+use std::path::{Path, PathBuf};
+use std::process::{Command, ExitCode, Stdio};
+use std::time::Instant;
+
+struct Size {
+    days: u64,
+    sweeps: u64,
+    logs: u64,
+    cut_logs: u64,
+    full_logs: u64,
+}
+
+const SHORT: Size = Size {
+    days: 20_000_000,
+    sweeps: 6,
+    logs: 100_000,
+    cut_logs: 20,
+    full_logs: 4,
+};
+
+const LONG: Size = Size {
+    days: 400_000_000,
+    sweeps: 60,
+    logs: 1_500_000,
+    cut_logs: 200,
+    full_logs: 40,
+};
+
+/// How far a figure may lie from the equation, in 0.0001 inch.
+const ALLOWED: f64 = 0.6;
+
+fn main() -> ExitCode {
+    let start = Instant::now();
+    let size = match std::env::args().nth(1).as_deref() {
+        Some("short") => SHORT,
+        Some("long") => LONG,
+        _ => {
+            eprintln!("usage: compare short | compare long");
+            return ExitCode::from(2);
+        }
+    };
+    let result = run(&size);
+    let seconds = start.elapsed().as_secs_f64();
+    match result {
+        Ok(()) => {
+            println!("no difference; {seconds:.1} s");
+            ExitCode::SUCCESS
+        }
+        Err(difference) => {
+            eprintln!("FAILED after {seconds:.1} s\n{difference}");
+            ExitCode::FAILURE
+        }
+    }
+}
+
+fn run(size: &Size) -> Result<(), String> {
+    println!("tables: {} entries are the same", table_text::compare()?);
+    println!("report texts: {} are the same", compare_reports()?);
+    println!("{}", refusal_eleven()?);
+    let days = compare_days(size)?;
+    days.print();
+    let logs = compare_logs(size)?;
+    logs.print();
+    all_reached(&days, &logs)
+}
+
+/// Refusal 11 over every mean and elevation in range: nothing else enters D + g.
+fn refusal_eleven() -> Result<String, String> {
+    let sums = (0..=3_000).flat_map(|elevation| {
+        (-94..=1_291).map(move |mean| {
+            let sum = second::sheet::slope_and_psychrometric(mean, elevation);
+            (sum, mean, elevation)
+        })
+    });
+    let (least, mean, elevation) = sums.min().expect("the ranges are not empty");
+    let of = format!("D + g is {least}, at mean {mean} and elevation {elevation}");
+    if least < 1 {
+        return Err(format!(
+            "refusal 11 can be given, and no day asks for it: {of}"
+        ));
+    }
+    let all = 1_386 * 3_001;
+    Ok(format!(
+        "refusal 11 cannot be given: over all {all} means and elevations the least {of}"
+    ))
+}
+
+#[derive(Default)]
+struct Largest {
+    difference: f64,
+    case: Option<Case>,
+}
+
+impl Largest {
+    fn take(&mut self, difference: f64, case: &Case) {
+        if difference > self.difference || self.case.is_none() {
+            *self = Largest {
+                difference,
+                case: Some(*case),
+            };
+        }
+    }
+}
+
+#[derive(Default)]
+struct Opinions {
+    count: u64,
+    largest: f64,
+}
+
+impl Opinions {
+    fn take(&mut self, difference: f64) {
+        self.count += 1;
+        self.largest = self.largest.max(difference);
+    }
+}
+
+#[derive(Default)]
+struct DayTally {
+    days: u64,
+    answered: u64,
+    above_zero: u64,
+    refused: [u64; 13],
+    refused_for_earlier: u64,
+    largest: Largest,
+    opinions: [Opinions; 5],
+}
+
+impl DayTally {
+    fn check(&mut self, case: &Case) -> Result<(), String> {
+        let Case {
+            station,
+            day,
+            earlier,
+        } = case;
+        let given = office::judge(station, day, earlier);
+        let expected = second::judge(station, day, earlier);
+        if given != expected {
+            return Err(format!(
+                "a day handed in alone: {given:?}, the second implementation {expected:?}\n{case:?}"
+            ));
+        }
+        self.days += 1;
+        match given {
+            Verdict::Figure(figure) => self.check_figure(figure, case),
+            Verdict::Refused(number) => {
+                self.refused[number as usize] += 1;
+                let alone = second::judge(station, day, &[None; 3]);
+                self.refused_for_earlier += u64::from(alone != given);
+                Ok(())
+            }
+        }
+    }
+
+    fn check_figure(&mut self, figure: u32, case: &Case) -> Result<(), String> {
+        self.answered += 1;
+        self.above_zero += u64::from(figure > 0);
+        let Case {
+            station,
+            day,
+            earlier,
+        } = case;
+        let away = |inches: f64| (f64::from(figure) - 10_000.0 * inches).abs();
+        let beyond = |from: &str, by: f64| {
+            format!("figure {figure} is {by} from {from}, more than {ALLOWED}\n{case:?}")
+        };
+
+        let difference = away(equation::inches(station, day, earlier));
+        if difference > ALLOWED {
+            return Err(beyond("the equation", difference));
+        }
+        self.largest.take(difference, case);
+
+        let opinion = routine::etpcomp(station, day, earlier);
+        let difference = away(opinion.inches);
+        if opinion.known == Known::Nothing && difference > ALLOWED {
+            return Err(beyond("the published routine", difference));
+        }
+        self.opinions[opinion.known as usize].take(difference);
+        Ok(())
+    }
+
+    fn print(&self) {
+        println!(
+            "days handed in alone: {}, answered {}, with a figure above zero {}",
+            self.days, self.answered, self.above_zero
+        );
+        for number in [3, 6, 7, 8, 9, 10, 11] {
+            println!("  refusal {number}: {}", self.refused[number]);
+        }
+        println!(
+            "  refusal 8 for an earlier mean: {}",
+            self.refused_for_earlier
+        );
+        println!(
+            "largest difference from the equation: {:.6} of 0.0001 inch",
+            self.largest.difference
+        );
+        if let Some(case) = &self.largest.case {
+            println!("  {case:?}");
+        }
+        println!("the published routine, in 0.0001 inch:");
+        for (known, what) in Known::ALL {
+            let Opinions { count, largest } = self.opinions[known as usize];
+            println!("  {what}: {count} days, largest difference {largest:.4}");
+        }
+    }
+}
+
+fn compare_days(size: &Size) -> Result<DayTally, String> {
+    let mut random = Random::new(1);
+    let mut tally = DayTally::default();
+    for case in days::halves() {
+        tally.check(&case)?;
+    }
+    for _ in 0..size.sweeps {
+        for case in days::sweep(&mut random) {
+            tally.check(&case)?;
+        }
+    }
+    while tally.days < size.days {
+        tally.check(&days::case(&mut random))?;
+    }
+    Ok(tally)
+}
+
+#[derive(Default)]
+struct LogTally {
+    logs: u64,
+    accepted: u64,
+    calls: u64,
+    refused: [u64; 13],
+    days: u64,
+    days_refused: [u64; 13],
+}
+
+/// Bytes before and after the lent buffer that nothing may touch.
+const MARGIN: usize = 16;
+
+/// What a buffer holds before it is lent. No byte is the same under both patterns, so each write shows.
+fn pattern(turned: bool, length: usize) -> Vec<u8> {
+    (0..length)
+        .map(|place| (place * 37 + 11) as u8 ^ if turned { 0xFF } else { 0 })
+        .collect()
+}
+
+fn in_hex(log: &[u8]) -> String {
+    let digits: String = log.iter().map(|byte| format!("{byte:02x}")).collect();
+    format!("log of {} bytes: {digits}", log.len())
+}
+
+impl LogTally {
+    fn check(&mut self, log: &[u8]) -> Result<(), String> {
+        let answers = second::answer_bytes(log);
+        self.logs += 1;
+        let needed = match &answers {
+            Ok(answers) => {
+                self.accepted += 1;
+                self.count_days(answers);
+                answers.len()
+            }
+            Err((number, _)) => {
+                self.refused[*number as usize] += 1;
+                0
+            }
+        };
+        // Answers are shorter than their records, so the last length is always more than is needed.
+        for length in [
+            0,
+            needed.saturating_sub(1),
+            needed,
+            needed + 1,
+            log.len() + 5,
+        ] {
+            for turned in [false, true] {
+                self.check_buffer(log, &answers, length, turned)
+                    .map_err(|difference| format!("{difference}\n{}", in_hex(log)))?;
+            }
+        }
+        Ok(())
+    }
+
+    fn check_buffer(
+        &mut self,
+        log: &[u8],
+        answers: &Result<Vec<u8>, second::log::Fault>,
+        length: usize,
+        turned: bool,
+    ) -> Result<(), String> {
+        let before = pattern(turned, length + 2 * MARGIN);
+        let lent = MARGIN..MARGIN + length;
+        let mut given_bytes = before.clone();
+        let mut expected_bytes = before.clone();
+        let given = office::read_log(log, &mut given_bytes[lent.clone()]);
+        let expected = second::write(answers, &mut expected_bytes[lent.clone()]);
+        if given != expected {
+            return Err(format!(
+                "buffer of {length}: {given:?}, the second implementation {expected:?}"
+            ));
+        }
+        let written = match given {
+            Outcome::Written(written) => written,
+            Outcome::Refused(number, _) => {
+                self.refused[12] += u64::from(number == 12);
+                0
+            }
+        };
+        let end = lent.start + written;
+        if given_bytes[..lent.start] != before[..lent.start] || given_bytes[end..] != before[end..]
+        {
+            return Err(format!(
+                "buffer of {length}, {given:?}: a byte beyond the answers was touched"
+            ));
+        }
+        if let Some(place) =
+            (0..length).find(|i| given_bytes[MARGIN + i] != expected_bytes[MARGIN + i])
+        {
+            let (given, expected) = (given_bytes[MARGIN + place], expected_bytes[MARGIN + place]);
+            return Err(format!(
+                "buffer of {length}: byte {place} is {given}, not {expected}"
+            ));
+        }
+        self.calls += 1;
+        Ok(())
+    }
+
+    fn count_days(&mut self, mut answers: &[u8]) {
+        while let Some(kind) = answers.first() {
+            let length = if *kind == 5 { 5 } else { 9 };
+            self.days += u64::from(*kind != 5);
+            if *kind == 4 {
+                self.days_refused[usize::from(answers[8])] += 1;
+            }
+            answers = &answers[length..];
+        }
+    }
+
+    fn print(&self) {
+        println!(
+            "logs: {}, accepted {}, read into {} buffers",
+            self.logs, self.accepted, self.calls
+        );
+        for number in [1, 2, 3, 4, 5] {
+            println!("  refusal {number}: {} logs", self.refused[number]);
+        }
+        println!("  refusal 12: {} buffers", self.refused[12]);
+        println!("  days in accepted logs: {}", self.days);
+        for number in [6, 7, 8, 9, 10, 11] {
+            println!("  refusal {number}: {} days", self.days_refused[number]);
+        }
+    }
+}
+
+/// The longest log, one byte less and more, far too long ones, and faults at the far end.
+fn full_logs(random: &mut Random) -> Vec<Vec<u8>> {
+    let mut made = |length| days::log_of_length(random, length).expect("records fill it");
+    let full = made(65_536);
+    let mut logs = vec![
+        made(65_535),
+        full[..65_535].to_vec(),
+        vec![0; 65_537],
+        vec![1; 140_000],
+    ];
+    for after in [0, 1, 2, 255] {
+        logs.push([&full[..], &[after]].concat());
+        logs.push([&full[..65_536 - 17], &[after]].concat());
+    }
+    logs.push([&full[..], &full[..]].concat());
+    logs.push(full);
+    logs
+}
+
+fn compare_logs(size: &Size) -> Result<LogTally, String> {
+    let mut random = Random::new(2);
+    let mut tally = LogTally::default();
+    tally.check(&[])?;
+    for _ in 0..size.cut_logs {
+        let log = days::sound_log(&mut random, 24);
+        for end in 0..=log.len() {
+            tally.check(&log[..end])?;
+        }
+    }
+    for _ in 0..size.full_logs {
+        for log in full_logs(&mut random) {
+            tally.check(&log)?;
+        }
+    }
+    while tally.logs < size.logs {
+        let most = if random.one_in(100) { 1_000 } else { 60 };
+        let log = days::sound_log(&mut random, most);
+        tally.check(&log)?;
+        tally.check(&days::damaged(&mut random, log))?;
+        tally.check(&days::loose_bytes(&mut random, 200))?;
+    }
+    Ok(tally)
+}
+
+fn report_program() -> PathBuf {
+    std::env::var_os("REPORT_PROGRAM").map_or_else(
+        || Path::new(env!("CARGO_MANIFEST_DIR")).join("../target/bin/report"),
+        PathBuf::from,
+    )
+}
+
+/// What the report program prints for a log on standard input.
+fn printed(program: &Path, log: &[u8]) -> Result<Vec<u8>, String> {
+    let trouble = |error: std::io::Error| format!("report program {}: {error}", program.display());
+    let mut child = Command::new(program)
+        .stdin(Stdio::piped())
+        .stdout(Stdio::piped())
+        .spawn()
+        .map_err(trouble)?;
+    let mut input = child.stdin.take().expect("standard input is piped");
+    std::thread::scope(|scope| {
+        // Beside the reading, so that neither pipe can fill up and stop the other.
+        let writing = scope.spawn(move || input.write_all(log));
+        let output = child.wait_with_output().map_err(trouble)?;
+        match writing.join().expect("writing does not panic") {
+            // The program may stop reading as soon as it knows that a log is too long.
+            Err(error) if error.kind() != ErrorKind::BrokenPipe => Err(trouble(error)),
+            _ => Ok(output.stdout),
+        }
+    })
+}
+
+fn sample_logs() -> Result<Vec<Vec<u8>>, String> {
+    let samples = Path::new(env!("CARGO_MANIFEST_DIR")).join("../samples");
+    let trouble = |error: std::io::Error| format!("{}: {error}", samples.display());
+    let mut logs = Vec::new();
+    for entry in std::fs::read_dir(&samples).map_err(trouble)? {
+        let path = entry.map_err(trouble)?.path();
+        if path.extension().is_some_and(|extension| extension == "log") {
+            logs.push(std::fs::read(path).map_err(trouble)?);
+        }
+    }
+    if logs.is_empty() {
+        return Err(format!("{}: no logs", samples.display()));
+    }
+    Ok(logs)
+}
+
+fn compare_reports() -> Result<usize, String> {
+    let mut random = Random::new(3);
+    let mut logs = sample_logs()?;
+    logs.push(Vec::new());
+    logs.extend(full_logs(&mut random));
+    for _ in 0..150 {
+        let log = days::sound_log(&mut random, 60);
+        logs.push(log.clone());
+        logs.push(days::damaged(&mut random, log));
+        logs.push(days::loose_bytes(&mut random, 60));
+    }
+    let program = report_program();
+    for log in &logs {
+        let given = printed(&program, log)?;
+        let expected = second::report(log);
+        if given != expected.as_bytes() {
+            return Err(format!(
+                "the report program printed\n{}\nthe second implementation\n{expected}\n{}",
+                String::from_utf8_lossy(&given),
+                in_hex(log)
+            ));
+        }
+    }
+    Ok(logs.len())
+}
+
+/// Fails if a refusal that can be given was never met.
+fn all_reached(days: &DayTally, logs: &LogTally) -> Result<(), String> {
+    let of_days = [3, 6, 7, 8, 9, 10].map(|number| (number, "days alone", days.refused[number]));
+    let of_logs = [1, 2, 3, 4, 5, 12].map(|number| (number, "logs", logs.refused[number]));
+    let in_logs =
+        [6, 7, 8, 9, 10].map(|number| (number, "days in logs", logs.days_refused[number]));
+    let for_earlier = [(8, "earlier means", days.refused_for_earlier)];
+    let all = of_days
+        .iter()
+        .chain(&of_logs)
+        .chain(&in_logs)
+        .chain(&for_earlier);
+    for (number, of, met) in all {
+        if *met == 0 {
+            return Err(format!("refusal {number} of {of} was never reached"));
+        }
+    }
+    println!("every refusal from 1 to 12 was reached, but for 11, which cannot be given");
+    Ok(())
+}

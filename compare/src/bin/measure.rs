@@ -1,0 +1,556 @@
+//! The speed of the proved library, in one run and as ratios: a day judged alone against the same sheet in plain Rust and
+//! against the published routine's floating-point formulas; a log read whole against its days judged one by one. Every
+//! answer that is timed is checked first; a wrong one is the only reason for a failing exit status.
+use compare::days::{self, Case, Random};
+use compare::second::{calendar, log, sheet};
+use compare::{office, plain, Day, Earlier, Outcome, Station, Verdict};
+use std::fmt;
+use std::hint::black_box;
+use std::process::ExitCode;
+use std::time::Instant;
+
+/// Days of the measured array, and how often each contender passes over it; the best pass counts.
+const DAYS: usize = 4_096;
+const PASSES: usize = 300;
+/// Random days, refused ones among them, on which the library and the plain version must agree.
+const CHECKED: usize = 1_000_000;
+const KIBIBYTE: usize = 1_024;
+const LOG_SIZES: [usize; 3] = [16 * KIBIBYTE, 32 * KIBIBYTE, 64 * KIBIBYTE];
+
+fn main() -> ExitCode {
+    let mut random = Random::new(17);
+    let stations = [0; 64].map(|_| station(&mut random));
+    let timed: Vec<Timed> = (0..DAYS)
+        .map(|place| Timed::new(alone(&mut random, stations[place % stations.len()])))
+        .collect();
+    let logs = LOG_SIZES.map(|size| Log::of_size(size, stations[0], &mut random));
+
+    println!("Processor: {}", processor());
+    let checked = check_random(&mut random)
+        .and_then(|report| check_timed(&timed).map(|()| report))
+        .and_then(|report| logs.iter().try_for_each(Log::check).map(|()| report));
+    match checked {
+        Ok(report) => println!("{report}"),
+        Err(wrong) => {
+            println!("WRONG: {wrong}");
+            return ExitCode::FAILURE;
+        }
+    }
+    let mut ratios = measure_days(&timed);
+    ratios.extend(measure_logs(&logs));
+    println!("\n{:<52}{:>8}  to reach", "Ratio", "measured");
+    for ratio in ratios {
+        println!("{ratio}");
+    }
+    ExitCode::SUCCESS
+}
+
+fn processor() -> String {
+    let information = std::fs::read_to_string("/proc/cpuinfo").unwrap_or_default();
+    information
+        .lines()
+        .find_map(|line| line.strip_prefix("model name")?.split_once(": "))
+        .map_or("unknown".into(), |(_, name)| name.into())
+}
+
+// ---------------------------------------------------------------- the routine
+
+/// The routine's mark of a value that is not there.
+const NOVAL: f64 = 998_877.0;
+
+/// What the routine is handed: temperatures in °F, radiation in cal/cm², wind in miles, the station's constants.
+#[derive(Clone, Copy)]
+struct Readings<Real> {
+    earlier: [Real; 3],
+    mean: Real,
+    wind: Real,
+    maximum: Real,
+    minimum: Real,
+    dewpoint: Real,
+    radiation: Real,
+    c: [Real; 5],
+    clear_minimum: Real,
+    elevation: Real,
+    d: Real,
+}
+
+impl<Real> Readings<Real> {
+    fn new(case: &Case, real: impl Fn(f64) -> Real) -> Self {
+        let Case {
+            station,
+            day,
+            earlier,
+        } = case;
+        let tenths = |reading: i16| real(f64::from(reading) / 10.0);
+        let units = [1.0, 1e-3, 1e-4, 1e-6, 1e-9];
+        Readings {
+            earlier: earlier.map(|mean| mean.map_or(real(NOVAL), tenths)),
+            mean: tenths(day.mean),
+            wind: tenths(day.wind),
+            maximum: tenths(day.maximum),
+            minimum: tenths(day.minimum),
+            dewpoint: tenths(day.dewpoint),
+            radiation: tenths(day.radiation),
+            c: std::array::from_fn(|i| real(f64::from(station.c[i]) * units[i])),
+            clear_minimum: real(station.minimum.into()),
+            elevation: real(station.elevation.into()),
+            d: real(day.d.into()),
+        }
+    }
+}
+
+impl Readings<f64> {
+    /// The routine's statements for one day in double precision. What is timed is its own arithmetic, so every power
+    /// has a real exponent, as the routine writes it, and nothing is converted or classified here.
+    #[inline(never)]
+    fn inches(&self) -> f64 {
+        let celsius = |fahrenheit: f64| 5.0 * (fahrenheit - 32.0) / 9.0;
+        let vapour_pressure = |t: f64| {
+            let power = (0.00738 * t + 0.8072).powf(8.0);
+            3.38639 * (power - 0.000019 * (1.8 * t + 48.0).abs() + 0.001316)
+        };
+        let x = self.d;
+        let tmean = celsius(self.mean);
+        let tmax = celsius(self.maximum);
+        let tmin = celsius(self.minimum);
+        let kmax = tmax + 273.16;
+        let kmin = tmin + 273.16;
+        let solar = self.radiation * 0.041868;
+        let u2 = self.wind.min(150.0) * 1.6093;
+
+        let plambda = 2.501 - 0.002361 * tmean;
+        let dd = 0.2 * (0.00738 * tmean + 0.8072).powf(7.0) - 0.000116;
+        let pp = 101.3 * ((288.0 - 0.0065 * self.elevation) / 288.0).powf(5.257);
+        let gg = 0.001005 * pp / (0.622 * plambda);
+        let fact1 = dd / (dd + gg);
+        let fact2 = 1.0 - fact1;
+
+        let (mut preav, mut kount) = (0.0, 0.0);
+        for mm_save in self.earlier {
+            if mm_save != NOVAL {
+                preav += mm_save;
+                kount += 1.0;
+            }
+        }
+        preav = if kount == 0.0 {
+            self.mean
+        } else {
+            preav / kount
+        };
+        let htflux = (tmean - celsius(preav)) * 0.377;
+
+        let vapmn = vapour_pressure(tmin);
+        let vapmx = vapour_pressure(tmax);
+        let vapdp = vapour_pressure(celsius(self.dewpoint));
+
+        let [c1, c2, c3, c4, c5] = self.c;
+        let clrad = c1 + c2 * x + c3 * x.powf(2.0) + c4 * x.powf(3.0) + c5 * x.powf(4.0);
+        let rso = clrad.max(self.clear_minimum) * 0.041868;
+
+        let a1 = 0.26 + 0.1 * (-(0.0154 * (x - 177.0)).powf(2.0)).exp();
+        let emit = a1 - 0.139 * vapdp.abs().sqrt();
+        let rbo = emit * 4.903e-9 * (kmax.powf(4.0) + kmin.powf(4.0)) / 2.0;
+        let albedo = 0.29 + 0.06 * (x + 97.92).to_radians().sin();
+        let sol = (solar / rso).min(1.0);
+        let (a, b) = if sol > 0.70 {
+            (1.126, -0.07)
+        } else {
+            (1.017, -0.06)
+        };
+        let rb = rbo * (a * sol + b);
+        let rn = (1.0 - albedo) * solar - rb;
+
+        let vapde = (vapmn + vapmx) * 0.5 - vapdp;
+        let aw = 0.4 + 1.4 * (-((x - 173.0) / 58.0).powf(2.0)).exp();
+        let bw = 0.007 + 0.004 * (-((x - 243.0) / 80.0).powf(2.0)).exp();
+        let wf = aw + bw * u2;
+
+        let etp_lamb = fact1 * (rn - htflux) + fact2 * 6.43 * wf * vapde;
+        (etp_lamb * 0.03937 / plambda).max(0.0)
+    }
+}
+
+#[cfg(has_fortran)]
+impl Readings<f32> {
+    /// The same statements in single precision, as Fortran compiles them.
+    fn inches(&self) -> f32 {
+        extern "C" {
+            fn etpcomp(
+                mm_save: &[f32; 3],
+                ob_mean: f32,
+                wr_run: f32,
+                ob_max: f32,
+                ob_min: f32,
+                tp_value: f32,
+                sr_value: f32,
+                cldyc: &[f32; 5],
+                cldym: f32,
+                elev: f32,
+                x: f32,
+            ) -> f32;
+        }
+        unsafe {
+            etpcomp(
+                &self.earlier,
+                self.mean,
+                self.wind,
+                self.maximum,
+                self.minimum,
+                self.dewpoint,
+                self.radiation,
+                &self.c,
+                self.clear_minimum,
+                self.elevation,
+                self.d,
+            )
+        }
+    }
+}
+
+// ---------------------------------------------------------------- what is timed
+
+/// A station whose clear-day curve lies near the published one of LIDW, at any elevation.
+fn station(random: &mut Random) -> Station {
+    Station {
+        code: [0; 4].map(|_| random.between(b'A'.into(), b'Z'.into()) as u8),
+        c: [
+            random.between(130, 180) as i16,
+            random.between(1_700, 1_900) as i16,
+            614,
+            -396,
+            590,
+        ],
+        minimum: random.between(50, 200) as u16,
+        elevation: random.between(0, 3_000) as u16,
+    }
+}
+
+/// Weather that is answered: temperatures of the season, any dew point up to the maximum, radiation up to the clear day's.
+fn weather(random: &mut Random, station: &Station, year: u16, d: u16) -> Day {
+    let turn = (f64::from(d) - 15.0) / 365.0 * std::f64::consts::TAU;
+    let mean = 500 - (270.0 * turn.cos()) as i64 + random.between(-180, 180);
+    let maximum = mean + random.between(0, 250);
+    // None near 70 per cent, where single precision may take the other pair of cloud constants.
+    let share = match random.between(5, 95) {
+        low @ ..=68 => low,
+        high => high + 4,
+    };
+    let clear_tenths = (sheet::clear_day(station, d) / 100_000_000) as i64;
+    Day {
+        year,
+        d,
+        maximum: maximum as i16,
+        minimum: (mean - random.between(0, 250)).max(-94) as i16,
+        mean: mean as i16,
+        dewpoint: random.between(-94, maximum) as i16,
+        radiation: (clear_tenths * share / 100) as i16,
+        wind: random.between(0, 3_000) as i16,
+    }
+}
+
+/// One day of the measured array; in one of 16 some of the earlier means are missing.
+fn alone(random: &mut Random, station: Station) -> Case {
+    let (year, d) = (random.between(1_950, 2_099), random.between(1, 365));
+    let day = weather(random, &station, year as u16, d as u16);
+    let gaps = random.one_in(16);
+    let earlier = [0; 3].map(|_| {
+        let mean = i64::from(day.mean) + random.between(-100, 100);
+        (!gaps || random.one_in(2)).then_some(mean.clamp(-94, 1_291) as i16)
+    });
+    Case {
+        station,
+        day,
+        earlier,
+    }
+}
+
+/// A day as it is handed in, and the same day in the routine's units.
+struct Timed {
+    case: Case,
+    double: Readings<f64>,
+    #[cfg(has_fortran)]
+    single: Readings<f32>,
+}
+
+impl Timed {
+    fn new(case: Case) -> Self {
+        Timed {
+            double: Readings::new(&case, |value| value),
+            #[cfg(has_fortran)]
+            single: Readings::new(&case, |value| value as f32),
+            case,
+        }
+    }
+}
+
+/// A log of one station and consecutive days, and the same days as they would be handed in alone.
+struct Log {
+    bytes: Vec<u8>,
+    cases: Vec<Case>,
+    expected: Vec<u8>,
+}
+
+impl Log {
+    /// As many whole records as fit.
+    fn of_size(size: usize, station: Station, random: &mut Random) -> Self {
+        let mut bytes = days::station_record(&station).to_vec();
+        let mut cases = Vec::new();
+        let mut earlier: Earlier = [None; 3];
+        for (year, d) in (1_950..=2_099).flat_map(|year| (1..=366).map(move |d| (year, d))) {
+            if calendar::number(year, d).is_none() {
+                continue;
+            }
+            let day = weather(random, &station, year, d);
+            let record = days::day_record(&day);
+            if bytes.len() + record.len() > size {
+                break;
+            }
+            bytes.extend(record);
+            cases.push(Case {
+                station,
+                day,
+                earlier,
+            });
+            earlier = [Some(day.mean), earlier[0], earlier[1]];
+        }
+        let expected = log::answer_bytes(&bytes).expect("a log without a fault");
+        Log {
+            bytes,
+            cases,
+            expected,
+        }
+    }
+
+    fn check(&self) -> Result<(), String> {
+        let mut answers = vec![0; self.expected.len()];
+        let outcome = office::read_log(&self.bytes, &mut answers);
+        if outcome == Outcome::Written(answers.len()) && answers == self.expected {
+            return Ok(());
+        }
+        Err(format!("log of {} bytes: {outcome:?}", self.bytes.len()))
+    }
+}
+
+fn by_office(
+    Case {
+        station,
+        day,
+        earlier,
+    }: &Case,
+) -> Verdict {
+    office::judge(station, day, earlier)
+}
+
+fn by_plain(
+    Case {
+        station,
+        day,
+        earlier,
+    }: &Case,
+) -> Verdict {
+    plain::judge(station, day, earlier)
+}
+
+// ---------------------------------------------------------------- answers first
+
+fn agreed(case: &Case) -> Result<Verdict, String> {
+    let (office, plain) = (by_office(case), by_plain(case));
+    if office == plain {
+        return Ok(plain);
+    }
+    Err(format!("{case:?}: library {office:?}, plain {plain:?}"))
+}
+
+fn check_random(random: &mut Random) -> Result<String, String> {
+    let mut answered = 0;
+    for _ in 0..CHECKED {
+        if let Verdict::Figure(_) = agreed(&days::case(random))? {
+            answered += 1;
+        }
+    }
+    Ok(format!(
+        "Answers: the library and the plain version agree on {CHECKED} random days, {answered} of them answered, \
+         and on all that is timed."
+    ))
+}
+
+fn check_timed(timed: &[Timed]) -> Result<(), String> {
+    for day in timed {
+        let Verdict::Figure(figure) = agreed(&day.case)? else {
+            return Err(format!("{:?} is not answered", day.case));
+        };
+        near(
+            "the routine in f64",
+            day.double.inches(),
+            figure,
+            0.601,
+            &day.case,
+        )?;
+        // Wide enough for single precision; it shows that the same equation is computed.
+        #[cfg(has_fortran)]
+        near(
+            "the routine in Fortran",
+            day.single.inches().into(),
+            figure,
+            2.0,
+            &day.case,
+        )?;
+    }
+    Ok(())
+}
+
+fn near(name: &str, inches: f64, figure: u32, margin: f64, case: &Case) -> Result<(), String> {
+    if (inches * 1e4 - f64::from(figure)).abs() <= margin {
+        return Ok(());
+    }
+    Err(format!(
+        "{case:?}: library {figure}, {name} {inches} inches"
+    ))
+}
+
+// ---------------------------------------------------------------- times
+
+/// The best time of each pass in nanoseconds; the contenders take turns, so that a busy moment of the machine meets all.
+fn best<const N: usize>(mut contenders: [&mut dyn FnMut(); N]) -> [f64; N] {
+    let mut best = [f64::INFINITY; N];
+    for _ in 0..PASSES {
+        for (contender, best) in contenders.iter_mut().zip(&mut best) {
+            let start = Instant::now();
+            contender();
+            *best = best.min(start.elapsed().as_nanos() as f64);
+        }
+    }
+    best
+}
+
+/// One pass of `work` over `items`, none of it dropped by the compiler.
+fn each<Item, Answer>(items: &[Item], work: impl Fn(&Item) -> Answer) {
+    for item in items {
+        black_box(work(black_box(item)));
+    }
+}
+
+struct Ratio {
+    name: String,
+    measured: f64,
+    wanted: Wanted,
+}
+
+enum Wanted {
+    AtMost(f64),
+    AtLeast(f64),
+    Nothing,
+}
+
+fn ratio(name: &str, measured: f64, wanted: Wanted) -> Ratio {
+    let name = name.into();
+    Ratio {
+        name,
+        measured,
+        wanted,
+    }
+}
+
+impl fmt::Display for Ratio {
+    fn fmt(&self, f: &mut fmt::Formatter) -> fmt::Result {
+        write!(f, "{:<52}{:>8.2}", self.name, self.measured)?;
+        let (wanted, reached) = match self.wanted {
+            Wanted::AtMost(limit) => (format!("at most {limit}"), self.measured <= limit),
+            Wanted::AtLeast(limit) => (format!("at least {limit}"), self.measured >= limit),
+            Wanted::Nothing => return Ok(()),
+        };
+        let verdict = if reached { "reached" } else { "NOT REACHED" };
+        write!(f, "  {wanted:<14}{verdict}")
+    }
+}
+
+fn measure_days(timed: &[Timed]) -> Vec<Ratio> {
+    let names = [
+        "judge of the proved library",
+        "the same sheet in plain i64",
+        "the routine's formulas in f64",
+        "the routine in Fortran, single precision",
+    ];
+    let times = best([
+        &mut || each(timed, |day| by_office(&day.case)),
+        &mut || each(timed, |day| by_plain(&day.case)),
+        &mut || each(timed, |day| day.double.inches()),
+        #[cfg(has_fortran)]
+        &mut || each(timed, |day| day.single.inches()),
+    ]);
+    println!("\n{:<52}{:>8}", "A day handed in alone", "ns a day");
+    for (name, time) in names.iter().zip(times) {
+        println!("{name:<52}{:>8.1}", time / timed.len() as f64);
+    }
+    let [office, plain, routine, fortran @ ..] = times;
+    let mut ratios = vec![
+        ratio("judge / plain", office / plain, Wanted::AtMost(1.1)),
+        ratio(
+            "routine in f64 / judge",
+            routine / office,
+            Wanted::AtLeast(3.0),
+        ),
+    ];
+    ratios.extend(fortran.map(|fortran| {
+        ratio(
+            "routine in Fortran / judge",
+            fortran / office,
+            Wanted::Nothing,
+        )
+    }));
+    ratios
+}
+
+fn measure_logs(logs: &[Log]) -> Vec<Ratio> {
+    let names = [
+        "read_log, answer buffer not cleared",
+        "read_log, answer buffer cleared first",
+        "its days judged one by one",
+        "a plain pass that adds up its bytes",
+    ];
+    println!(
+        "\n{:<40}{:>8}{:>12}{:>10}{:>12}",
+        "A log read whole", "KiB", "us a log", "MB/s", "days/s"
+    );
+    let mut ratios = Vec::new();
+    let mut whole = Vec::new();
+    for (log, size) in logs.iter().zip(LOG_SIZES) {
+        let kibibytes = size / KIBIBYTE;
+        let mut answers = vec![0; log.expected.len()];
+        let mut cleared = answers.clone();
+        let read = |buffer: &mut [u8]| black_box(office::read_log(black_box(&log.bytes), buffer));
+        let times = best([
+            &mut || {
+                read(black_box(&mut answers));
+            },
+            &mut || {
+                black_box(&mut cleared).fill(0);
+                read(black_box(&mut cleared));
+            },
+            &mut || each(&log.cases, by_office),
+            &mut || {
+                let bytes = black_box(&log.bytes).iter();
+                black_box(bytes.map(|&byte| u64::from(byte)).sum::<u64>());
+            },
+        ]);
+        for (name, time) in names.iter().zip(times) {
+            let a_second = |count: usize| count as f64 / time * 1e9;
+            println!(
+                "{name:<40}{kibibytes:>8}{:>12.2}{:>10.1}{:>12.0}",
+                time / 1e3,
+                a_second(log.bytes.len()) / 1e6,
+                a_second(log.cases.len()),
+            );
+        }
+        let [not_cleared, _, judged, _] = times;
+        let name = format!("read_log / its days judged, {kibibytes} KiB");
+        ratios.push(ratio(&name, not_cleared / judged, Wanted::AtMost(1.3)));
+        whole.push(not_cleared);
+    }
+    let [_, half, entire] = whole[..] else {
+        return ratios;
+    };
+    let name = "read_log of 64 KiB / of 32 KiB";
+    ratios.push(ratio(name, entire / half, Wanted::AtMost(2.1)));
+    ratios
+}

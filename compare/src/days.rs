@@ -1,0 +1,480 @@
+//! The days and logs to compare on, from a seeded generator: the same seed gives the same days everywhere.
+use crate::second::sheet::clear_day;
+use crate::{Day, Earlier, Station};
+
+/// The generator splitmix64.
+pub struct Random(u64);
+
+impl Random {
+    pub fn new(seed: u64) -> Self {
+        Random(seed)
+    }
+
+    pub fn bits(&mut self) -> u64 {
+        self.0 = self.0.wrapping_add(0x9E37_79B9_7F4A_7C15);
+        let mut z = self.0;
+        z = (z ^ (z >> 30)).wrapping_mul(0xBF58_476D_1CE4_E5B9);
+        z = (z ^ (z >> 27)).wrapping_mul(0x94D0_49BB_1331_11EB);
+        z ^ (z >> 31)
+    }
+
+    pub fn below(&mut self, end: usize) -> usize {
+        ((u128::from(self.bits()) * end as u128) >> 64) as usize
+    }
+
+    /// Both ends included.
+    pub fn between(&mut self, low: i64, high: i64) -> i64 {
+        low + self.below((high - low + 1) as usize) as i64
+    }
+
+    pub fn pick<T: Copy>(&mut self, from: &[T]) -> T {
+        from[self.below(from.len())]
+    }
+
+    pub fn one_in(&mut self, many: usize) -> bool {
+        self.below(many) == 0
+    }
+}
+
+/// A day handed in alone.
+#[derive(Clone, Copy, Debug)]
+pub struct Case {
+    pub station: Station,
+    pub day: Day,
+    pub earlier: Earlier,
+}
+
+/// A field of a case, its accepted range, and further values that the rules treat on their own.
+struct Field {
+    set: fn(&mut Case, i64),
+    low: i64,
+    high: i64,
+    special: &'static [i64],
+}
+
+const fn field(set: fn(&mut Case, i64), low: i64, high: i64, special: &'static [i64]) -> Field {
+    Field {
+        set,
+        low,
+        high,
+        special,
+    }
+}
+
+const fn letter(set: fn(&mut Case, i64)) -> Field {
+    field(set, b'A' as i64, b'Z' as i64, &[0, b'a' as i64, 255])
+}
+
+const fn coefficient(set: fn(&mut Case, i64)) -> Field {
+    field(set, -32_768, 32_767, &[-1, 0, 1])
+}
+
+const fn temperature(set: fn(&mut Case, i64)) -> Field {
+    field(set, -94, 1_291, &[-32_768, -32_767, 32_767, -160, 320])
+}
+
+const FIELDS: [Field; 24] = [
+    letter(|case, value| case.station.code[0] = value as u8),
+    letter(|case, value| case.station.code[1] = value as u8),
+    letter(|case, value| case.station.code[2] = value as u8),
+    letter(|case, value| case.station.code[3] = value as u8),
+    coefficient(|case, value| case.station.c[0] = value as i16),
+    coefficient(|case, value| case.station.c[1] = value as i16),
+    coefficient(|case, value| case.station.c[2] = value as i16),
+    coefficient(|case, value| case.station.c[3] = value as i16),
+    coefficient(|case, value| case.station.c[4] = value as i16),
+    field(
+        |case, value| case.station.minimum = value as u16,
+        50,
+        200,
+        &[0, 32_768, 65_535],
+    ),
+    field(
+        |case, value| case.station.elevation = value as u16,
+        0,
+        3_000,
+        &[32_768, 65_535],
+    ),
+    field(
+        |case, value| case.day.year = value as u16,
+        1_950,
+        2_099,
+        &[0, 1_900, 2_000, 65_535],
+    ),
+    field(
+        |case, value| case.day.d = value as u16,
+        1,
+        366,
+        &[59, 60, 61, 365, 32_769, 65_535],
+    ),
+    temperature(|case, value| case.day.maximum = value as i16),
+    temperature(|case, value| case.day.minimum = value as i16),
+    temperature(|case, value| case.day.mean = value as i16),
+    temperature(|case, value| case.day.dewpoint = value as i16),
+    temperature(|case, value| {
+        let f = value as i16;
+        let day = &mut case.day;
+        (day.maximum, day.minimum, day.mean, day.dewpoint) = (f, f, f, f);
+    }),
+    field(
+        |case, value| case.day.radiation = value as i16,
+        0,
+        12_000,
+        &[-32_768, 32_767],
+    ),
+    field(
+        |case, value| case.day.wind = value as i16,
+        0,
+        9_999,
+        &[-32_768, 1_500, 1_501, 32_767],
+    ),
+    temperature(|case, value| case.earlier[0] = Some(value as i16)),
+    temperature(|case, value| case.earlier[1] = Some(value as i16)),
+    temperature(|case, value| case.earlier[2] = Some(value as i16)),
+    temperature(|case, value| case.earlier = [Some(value as i16); 3]),
+];
+
+/// c1 to c5 of LIDW, MALI, KFLW, CEDC and FALN in the published station file.
+const PUBLISHED: [[i16; 5]; 5] = [
+    [154, 1_760, 614, -396, 590],
+    [213, 960, 599, -362, 521],
+    [134, 1_470, 676, -427, 636],
+    [219, 2_450, 437, -305, 460],
+    [246, 2_690, 369, -270, 409],
+];
+
+fn station(random: &mut Random) -> Station {
+    let c = match random.below(8) {
+        0 => [0; 5].map(|_: i16| random.bits() as i16),
+        1 => [0; 5].map(|_: i16| random.pick(&[-32_768, -1, 0, 1, 32_767])),
+        2 => [random.between(50, 900) as i16, 0, 0, 0, 0],
+        _ => {
+            let near = random.pick(&PUBLISHED);
+            near.map(|c| c + random.between(-10, 10) as i16)
+        }
+    };
+    Station {
+        code: [0; 4].map(|_: u8| random.between(b'A'.into(), b'Z'.into()) as u8),
+        c,
+        minimum: random.between(50, 200) as u16,
+        elevation: random.between(0, 3_000) as u16,
+    }
+}
+
+fn date(random: &mut Random) -> (u16, u16) {
+    let d = match random.below(4) {
+        0 => random.pick(&[1, 2, 3, 4, 59, 60, 61, 362, 363, 364, 365]),
+        _ => random.between(1, 365),
+    };
+    (random.between(1_950, 2_099) as u16, d as u16)
+}
+
+/// Radiation for a clear-day Q: mostly within it, some up to twice it, some at the borders 0.7, 1 and 2.
+fn radiation(random: &mut Random, q: i128) -> i16 {
+    let border = |tenths_of_q: i128| (tenths_of_q * q / 1_000_000_000).min(12_000) as i64;
+    let s = match random.below(12) {
+        0 => border(7) + random.between(-1, 2),
+        1 => border(10) + random.between(-1, 2),
+        2 => border(20) + random.between(-1, 1),
+        3 | 4 => random.between(0, border(20)),
+        _ => random.between(0, border(10)),
+    };
+    s.clamp(0, 12_000) as i16
+}
+
+/// A day that is mostly answered.
+fn ordinary(random: &mut Random, station: Station, (year, d): (u16, u16)) -> Case {
+    let (low, high) = match random.below(4) {
+        0 => (-94, 1_291),
+        1 => (random.between(-94, 300), random.between(301, 1_291)),
+        _ => {
+            let middle = random.between(100, 900);
+            (middle - 180, middle + 180)
+        }
+    };
+    let mut three = [0; 3].map(|_: i64| random.between(low, high));
+    three.sort_unstable();
+    let [minimum, mean, maximum] = three.map(|f| f as i16);
+    let dewpoint = match random.below(3) {
+        0 => random.between(-94, maximum.into()),
+        _ => random.between(low, maximum.into()),
+    };
+    let wind = match random.below(4) {
+        0 => random.between(0, 9_999),
+        1 => random.between(1_498, 1_503),
+        _ => random.between(0, 1_600),
+    };
+    let earlier = [0; 3].map(|_: i16| match random.below(8) {
+        0 | 1 => None,
+        2 => Some(random.between(-94, 1_291) as i16),
+        _ => Some(random.between(low, high) as i16),
+    });
+    let day = Day {
+        year,
+        d,
+        maximum,
+        minimum,
+        mean,
+        dewpoint: dewpoint as i16,
+        radiation: radiation(random, clear_day(&station, d)),
+        wind: wind as i16,
+    };
+    Case {
+        station,
+        day,
+        earlier,
+    }
+}
+
+/// One to three fields at an end of their range, one beyond it, or at a value with a meaning of its own.
+fn to_corners(random: &mut Random, case: &mut Case) {
+    for _ in 0..random.between(1, 3) {
+        let field = &FIELDS[random.below(FIELDS.len())];
+        let ends = [field.low - 1, field.low, field.high, field.high + 1];
+        let values = [&ends[..], field.special].concat();
+        (field.set)(case, random.pick(&values));
+    }
+}
+
+/// The four temperatures within one tenth of each other, so that each order is met and just missed.
+fn to_order_border(random: &mut Random, case: &mut Case) {
+    let f = random.between(-93, 1_290);
+    let mut near = || (f + random.between(-1, 1)) as i16;
+    case.day.maximum = near();
+    case.day.minimum = near();
+    case.day.mean = near();
+    case.day.dewpoint = near();
+}
+
+/// Clear-day radiation of a whole number of calories C and radiation of just 0.7, 1 or 2 times C, or beside it.
+fn to_exact_ratio(random: &mut Random, case: &mut Case) {
+    let (tenths, most) = random.pick(&[(7, 1_700), (10, 1_199), (20, 599)]);
+    let c = random.between(200, most);
+    let mut clear = c;
+    match random.below(4) {
+        0 => {
+            case.station.c = [-1, 0, 0, 0, 0];
+            clear = case.station.minimum.into();
+        }
+        1 => {
+            case.day.d = 1;
+            case.station.c = [c as i16, 0, 0, 0, random.between(-1, 1) as i16];
+        }
+        2 => case.station.c = [c as i16, 0, 0, 0, 0],
+        _ => {
+            // With d = 10a all terms are multiples of 10⁷; c2 makes their sum 10⁹ times a whole number.
+            let a = random.between(1, 30);
+            let c3 = random.between(-30, 30);
+            let c4 = random.between(-3, 3);
+            let c5 = random.between(-1, 1);
+            let turn = random.between(-5, 5);
+            let c2 = 100 * turn - (c3 * a + c4 * a.pow(2) + c5 * a.pow(3));
+            case.day.d = 10 * a as u16;
+            case.station.c = [c - turn * a, c2, c3, 10 * c4, 1_000 * c5].map(|c| c as i16);
+        }
+    }
+    case.day.radiation = (tenths * clear + random.pick(&[-1, 0, 0, 1])) as i16;
+}
+
+/// Every bit of a case by chance.
+fn anything(random: &mut Random) -> Case {
+    let mut number = || random.bits() as i16;
+    Case {
+        station: Station {
+            code: [number(), number(), number(), number()].map(|letter| letter as u8),
+            c: [number(), number(), number(), number(), number()],
+            minimum: number() as u16,
+            elevation: number() as u16,
+        },
+        day: Day {
+            year: number() as u16,
+            d: number() as u16,
+            maximum: number(),
+            minimum: number(),
+            mean: number(),
+            dewpoint: number(),
+            radiation: number(),
+            wind: number(),
+        },
+        earlier: [number(), number(), number()].map(|mean| (mean % 2 == 0).then_some(mean)),
+    }
+}
+
+fn case_of(random: &mut Random, station: Station, date: (u16, u16)) -> Case {
+    let mut case = ordinary(random, station, date);
+    match random.below(20) {
+        0 => to_order_border(random, &mut case),
+        1..=3 => to_corners(random, &mut case),
+        _ => {}
+    }
+    case
+}
+
+/// A day handed in alone, answered more often than not.
+pub fn case(random: &mut Random) -> Case {
+    if random.one_in(50) {
+        return anything(random);
+    }
+    let station = station(random);
+    let date = date(random);
+    let mut case = case_of(random, station, date);
+    if random.one_in(10) {
+        to_exact_ratio(random, &mut case);
+    }
+    case
+}
+
+/// Two days whose 23,622A/(100M) is a half, which chance hardly meets: the latent heat of the mean 993 shares the
+/// factors 31 and 127 with 23,622.
+pub fn halves() -> [Case; 2] {
+    let half = |d, [maximum, minimum, dewpoint, radiation, wind, earlier]: [i16; 6]| Case {
+        station: Station {
+            code: *b"LIDW",
+            c: PUBLISHED[0],
+            minimum: 100,
+            elevation: 497,
+        },
+        day: Day {
+            year: 2007,
+            d,
+            maximum,
+            minimum,
+            mean: 993,
+            dewpoint,
+            radiation,
+            wind,
+        },
+        earlier: [Some(earlier), None, None],
+    };
+    [
+        half(218, [1_080, 703, 599, 5_882, 248, 900]),
+        half(168, [1_062, 789, 361, 5_041, 1_360, 867]),
+    ]
+}
+
+/// Every value of every field's range and one beyond, the other fields kept.
+pub fn sweep(random: &mut Random) -> impl Iterator<Item = Case> {
+    let station = station(random);
+    let date = date(random);
+    let kept = ordinary(random, station, date);
+    FIELDS.iter().flat_map(move |field| {
+        (field.low - 1..=field.high + 1).map(move |value| {
+            let mut case = kept;
+            (field.set)(&mut case, value);
+            case
+        })
+    })
+}
+
+pub fn station_record(station: &Station) -> [u8; 19] {
+    let mut record = [1; 19];
+    record[1..5].copy_from_slice(&station.code);
+    let [c1, c2, c3, c4, c5] = station.c.map(|c| c as u16);
+    let numbers = [c1, c2, c3, c4, c5, station.minimum, station.elevation];
+    fill(&mut record[5..], &numbers);
+    record
+}
+
+pub fn day_record(day: &Day) -> [u8; 17] {
+    let mut record = [2; 17];
+    let readings = [
+        day.maximum,
+        day.minimum,
+        day.mean,
+        day.dewpoint,
+        day.radiation,
+        day.wind,
+    ];
+    fill(&mut record[1..5], &[day.year, day.d]);
+    fill(&mut record[5..], &readings.map(|reading| reading as u16));
+    record
+}
+
+fn fill(body: &mut [u8], numbers: &[u16]) {
+    for (place, number) in body.chunks_exact_mut(2).zip(numbers) {
+        place.copy_from_slice(&number.to_be_bytes());
+    }
+}
+
+/// Mostly the next day; gaps of a few days, the same day and the day before; day 366 in any year.
+fn next_date(random: &mut Random, (year, d): (u16, u16)) -> (u16, u16) {
+    let step = match random.below(30) {
+        0 => -1,
+        1 => 0,
+        2..=7 => random.between(2, 5) as i32,
+        _ => 1,
+    };
+    let next = i32::from(d) + step;
+    if next > 366 || (next == 366 && random.one_in(2)) {
+        (year + 1, 1)
+    } else {
+        (year, next.max(0) as u16)
+    }
+}
+
+/// A log with so many records of each kind, all of them in order; its days are those of `case`.
+pub fn log(random: &mut Random, stations: usize, days: usize) -> Vec<u8> {
+    let mut log = Vec::with_capacity(19 * stations + 17 * days);
+    let mut block = station(random);
+    let mut today = date(random);
+    log.extend(station_record(&block));
+    let mut stations_left = stations - 1;
+    for records_left in (1..stations + days).rev() {
+        if random.below(records_left) < stations_left {
+            block = station(random);
+            today = date(random);
+            log.extend(station_record(&block));
+            stations_left -= 1;
+        } else {
+            today = next_date(random, today);
+            log.extend(day_record(&case_of(random, block, today).day));
+        }
+    }
+    log
+}
+
+/// A log without a fault of up to so many records.
+pub fn sound_log(random: &mut Random, most: usize) -> Vec<u8> {
+    let days = random.below(most);
+    let stations = 1 + random.below(days / 8 + 1);
+    log(random, stations, days)
+}
+
+/// A log without a fault that is just so many bytes long, where records of 19 and 17 bytes can make that up.
+pub fn log_of_length(random: &mut Random, length: usize) -> Option<Vec<u8>> {
+    let fits = |stations: &usize| (length - 19 * stations).is_multiple_of(17);
+    let stations = (1..=length / 19).find(fits)?;
+    Some(log(random, stations, (length - 19 * stations) / 17))
+}
+
+/// A log with one to four bytes or stretches changed, put in, taken out or exchanged.
+pub fn damaged(random: &mut Random, mut log: Vec<u8>) -> Vec<u8> {
+    for _ in 0..random.between(1, 4) {
+        if log.is_empty() {
+            return log;
+        }
+        let at = random.below(log.len());
+        let other = random.below(log.len());
+        match random.below(7) {
+            0 => log[at] ^= 1 << random.below(8),
+            1 => log[at] = random.bits() as u8,
+            2 => log.insert(at, random.pick(&[0, 1, 2, 3, 255])),
+            3 => drop(log.remove(at)),
+            4 => log.swap(at, other),
+            5 => log.truncate(at),
+            _ => drop(log.drain(at.min(other)..at.max(other))),
+        }
+    }
+    log
+}
+
+/// Bytes by chance, with the two kinds more often than others.
+pub fn loose_bytes(random: &mut Random, most: usize) -> Vec<u8> {
+    let length = random.below(most);
+    (0..length)
+        .map(|_| match random.below(3) {
+            0 => random.bits() as u8,
+            _ => random.pick(&[1, 2]),
+        })
+        .collect()
+}

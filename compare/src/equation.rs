@@ -1,0 +1,90 @@
+//! The unrounded equation of scope document 01 in double precision. It takes nothing from the step sheet.
+use crate::{Day, Earlier, Station};
+
+fn fahrenheit(tenths: i16) -> f64 {
+    f64::from(tenths) / 10.0
+}
+
+fn celsius(tenths: i16) -> f64 {
+    (fahrenheit(tenths) - 32.0) / 1.8
+}
+
+fn y(tenths: i16) -> f64 {
+    0.00738 * celsius(tenths) + 0.8072
+}
+
+fn vapour_pressure(tenths: i16) -> f64 {
+    3.38639 * (y(tenths).powi(8) - 0.000019 * (fahrenheit(tenths) + 16.0).abs() + 0.001316)
+}
+
+/// C in whole billionths of a calorie: c1 to c5 are whole in their units, so nothing is lost.
+fn clear_day(station: &Station, d: u16) -> i64 {
+    let units = [1_000_000_000, 1_000_000, 100_000, 1_000, 1];
+    let terms = station.c.iter().zip(units).zip(0..);
+    let sum: i64 = terms
+        .map(|((&c, unit), power)| i64::from(c) * unit * i64::from(d).pow(power))
+        .sum();
+    sum.max(i64::from(station.minimum) * 1_000_000_000)
+}
+
+/// The value in inches of a day that none of the refusals holds of.
+pub fn inches(station: &Station, day: &Day, earlier: &Earlier) -> f64 {
+    let d = f64::from(day.d);
+    let bell = |x: f64| (-x * x).exp();
+    let albedo = 0.29 + 0.06 * (d + 97.92).to_radians().sin();
+    let a1 = 0.26 + 0.1 * bell(0.0154 * (d - 177.0));
+    let aw = 0.4 + 1.4 * bell((d - 173.0) / 58.0);
+    let bw = 0.007 + 0.004 * bell((d - 243.0) / 80.0);
+    let elevation = f64::from(station.elevation);
+    let pressure = 101.3 * ((576_000.0 - 13.0 * elevation) / 576_000.0).powf(5.257);
+
+    let ea = vapour_pressure(day.dewpoint);
+    let delta = 0.2 * y(day.mean).powi(7) - 0.000116;
+    let l = 2.501 - 0.002361 * celsius(day.mean);
+    let gamma = 0.001005 * pressure / (0.622 * l);
+
+    let r = f64::from(day.radiation) / 10.0;
+    let billionths = clear_day(station, day.d);
+    let c = billionths as f64 / 1e9;
+    // R > 0.7C on whole numbers: the equation's choices are exact.
+    let k = if i64::from(day.radiation) * 1_000_000_000 > 7 * billionths {
+        1.126 * r / c - 0.07
+    } else {
+        1.017 * r / c - 0.06
+    };
+
+    let fourth = |tenths| (celsius(tenths) + 273.16).powi(4);
+    let b = 4.903e-9 * (fourth(day.maximum) + fourth(day.minimum)) / 2.0;
+    let rn = 0.041868 * (1.0 - albedo) * r - (a1 - 0.139 * ea.sqrt()) * b * k;
+
+    let present: Vec<f64> = earlier
+        .iter()
+        .flatten()
+        .map(|&mean| celsius(mean))
+        .collect();
+    let g = if present.is_empty() {
+        0.0
+    } else {
+        0.377 * (celsius(day.mean) - present.iter().sum::<f64>() / present.len() as f64)
+    };
+
+    let u = (f64::from(day.wind) / 10.0).min(150.0);
+    let deficit = (vapour_pressure(day.maximum) + vapour_pressure(day.minimum)) / 2.0 - ea;
+    let t = 6.43 * (aw + 1.6093 * bw * u) * deficit;
+
+    (0.03937 * (delta * (rn - g) + gamma * t) / ((delta + gamma) * l)).max(0.0)
+}
+
+#[cfg(test)]
+mod tests {
+    use super::inches;
+
+    #[test]
+    fn two_days_worked_with_fifty_digits() {
+        let worked = [0.247_649_976_487_703_14, 0.394_049_893_431_268_8];
+        for (case, expected) in crate::days::halves().iter().zip(worked) {
+            let value = inches(&case.station, &case.day, &case.earlier);
+            assert!((value - expected).abs() < 1e-14);
+        }
+    }
+}

@@ -1,0 +1,49 @@
+//! What is handed in and what comes back, as this project writes it, and the parts that are compared.
+
+pub mod days;
+pub mod equation;
+pub mod office;
+pub mod plain;
+pub mod routine;
+pub mod second;
+mod table_rows;
+pub mod table_text;
+
+/// A station: its code, c1 to c5, the clear-day minimum and the elevation, in the log's units.
+#[derive(Clone, Copy, Debug, PartialEq, Eq)]
+pub struct Station {
+    pub code: [u8; 4],
+    pub c: [i16; 5],
+    pub minimum: u16,
+    pub elevation: u16,
+}
+
+/// A day: its date and six readings in tenths.
+#[derive(Clone, Copy, Debug, PartialEq, Eq)]
+pub struct Day {
+    pub year: u16,
+    pub d: u16,
+    pub maximum: i16,
+    pub minimum: i16,
+    pub mean: i16,
+    pub dewpoint: i16,
+    pub radiation: i16,
+    pub wind: i16,
+}
+
+/// The means of the three calendar days before, the nearest first.
+pub type Earlier = [Option<i16>; 3];
+
+/// A figure in 0.0001 inch, or a refusal's number.
+#[derive(Clone, Copy, Debug, PartialEq, Eq)]
+pub enum Verdict {
+    Figure(u32),
+    Refused(u32),
+}
+
+/// The length written, or a refusal's number with its offset or, for 12, the length needed.
+#[derive(Clone, Copy, Debug, PartialEq, Eq)]
+pub enum Outcome {
+    Written(usize),
+    Refused(u32, usize),
+}

@@ -1,0 +1,60 @@
+//! The text that the report program prints for a log, as scope document 01 lays it out.
+use super::log::{answers, Answer};
+use crate::Verdict;
+
+fn shown(verdict: &Verdict) -> String {
+    match verdict {
+        Verdict::Figure(figure) => format!("{}.{:04}", figure / 10_000, figure % 10_000),
+        Verdict::Refused(number) => format!("R{number}"),
+    }
+}
+
+pub fn report(log: &[u8]) -> String {
+    let answers = match answers(log) {
+        Err((number, offset)) => return format!("REFUSED {number} {offset}\n"),
+        Ok(answers) => answers,
+    };
+    let mut text = String::from("STN YEAR DAY ET\n");
+    let mut code = String::new();
+    for answer in &answers {
+        match answer {
+            Answer::Station(letters) => code = String::from_utf8_lossy(letters).into_owned(),
+            Answer::Day { year, d, verdict } => {
+                text += &format!("{code} {year:04} {d:03} {}\n", shown(verdict));
+            }
+        }
+    }
+    text
+}
+
+#[cfg(test)]
+mod tests {
+    use super::*;
+
+    const WORKED: &[u8] = b"\x01LIDW\x00\x9a\x06\xe0\x02\x66\xfe\x74\x02\x4e\x00\x64\x01\xf1\
+        \x02\x07\xd8\x00\x0a\x00\xc8\x00\xc8\x00\xc8\x00\xc8\x00\x00\x80\x00\
+        \x02\x07\xd8\x00\x0b\x00\xc8\x00\xc8\x00\xc8\x00\xc8\x00\x00\x80\x00\
+        \x02\x07\xd8\x00\x0c\x01\x40\x01\x40\x01\x40\x01\x40\x00\x00\x00\x00";
+
+    #[test]
+    fn the_worked_log() {
+        assert_eq!(
+            report(WORKED),
+            "STN YEAR DAY ET\nLIDW 2008 010 R7\nLIDW 2008 011 R7\nLIDW 2008 012 0.0000\n"
+        );
+    }
+
+    #[test]
+    fn the_header_alone_and_a_refused_log() {
+        assert_eq!(report(&[]), "STN YEAR DAY ET\n");
+        assert_eq!(report(&WORKED[..69]), "REFUSED 2 53\n");
+    }
+
+    #[test]
+    fn long_and_short_numbers() {
+        let mut log = WORKED[..36].to_vec();
+        log[20..24].copy_from_slice(&[0, 7, 0xFF, 0xFF]);
+        assert_eq!(report(&log), "STN YEAR DAY ET\nLIDW 0007 65535 R6\n");
+        assert_eq!(shown(&Verdict::Figure(123_045)), "12.3045");
+    }
+}
