@@ -13,3 +13,4 @@ pub mod SheetBound
 pub mod EntryBound
 pub mod DayBound
 pub mod Examples
+pub mod Told

@@ -6,14 +6,16 @@ use mathlib.Core.Bool.{Bool, true, false, not, cond}
 use Prim.Native.Nat.{ℕ, _≤_, _%_}
 use native.Mathlib.Nat.{le-trans}
 use native.Mathlib.Omega.{arith}
-use borrow.Author.Tests.{ltb-false}
+use borrow.Author.Tests.{ltb-false, lt-leb}
 use lib.Dec.{T, ltb, leb, leb→le, eqb}
-use Rattle.numbers.specs.Ranges.{Range, InRange}
+use lib.IntN.{ℤ, pos, negsuc}
+use Rattle.numbers.specs.Ranges.{Range, minus_to_, Bounds, InRange, inRange}
+use Rattle.numbers.proofs.RangeArithmetic.{inside, wider}
 use Rattle.sheet.specs.Quantities as quantities
 use Rattle.sheet.specs.Accepted.{ReadingsInRange, EntriesInRange}
 use Rattle.tables.proofs.ValueRanges.{albedo-in, a1-in, aw-in, bw-in, pressure-in}
 use Rattle.day.specs.Calendar.{yearLength, isDate}
-use Rattle.day.specs.Rules.{anyOf, stationFaults, readingFaults, meanFault}
+use Rattle.day.specs.Rules.{anyOf, stationFaults, isMissing, missingMarks, readingFaults, meanFault}
 use Rattle.day.specs.Judgement.{readingsOf, entriesAt, holds}
 use Rattle.day.specs.declared.Station.{Station}
 use Rattle.day.specs.declared.Day.{Day}
@@ -98,6 +100,33 @@ module _ (st : Station) (day : Day) (earlier : Earlier) (accepted : holds OutOfR
         radiation = passed quantities.radiation (each .1 .1 .1 .1 .0);
         wind = passed quantities.wind (each .1 .1 .1 .1 .1 .0);
       }
+
+-- ---- the marks of missing readings
+
+-- all that sixteen bits hold but the mark
+abbrev unmarked : Range
+unmarked = minus 32_767 to 32_767
+
+above-mark : (z : ℤ) → Bounds unmarked z → isMissing z ≡ false
+above-mark (pos n) h = refl
+above-mark (negsuc n) h = lt-leb 32_767 n h
+
+in-range-unmarked : (r : Range) (z : ℤ) → T (inside r unmarked) → not (inRange r z) ≡ false → isMissing z ≡ false
+in-range-unmarked r z t e = above-mark z (wider r unmarked z t (passed r e .bounds))
+
+-- no reading of a day is missing that is in its range
+pub none-missing : (day : Day) → anyOf (readingFaults (day .maximum) (day .minimum) (day .mean) (day .dewpoint) (day .radiation) (day .wind)) ≡ false →
+    anyOf (missingMarks (day .maximum) (day .minimum) (day .mean) (day .dewpoint) (day .radiation) (day .wind)) ≡ false
+none-missing day e =
+    let each = all-false (readingFaults (day .maximum) (day .minimum) (day .mean) (day .dewpoint) (day .radiation) (day .wind)) e in
+    rw (
+      in-range-unmarked quantities.temperature (day .maximum) tt (each .0),
+      in-range-unmarked quantities.temperature (day .minimum) tt (each .1 .0),
+      in-range-unmarked quantities.temperature (day .mean) tt (each .1 .1 .0),
+      in-range-unmarked quantities.temperature (day .dewpoint) tt (each .1 .1 .1 .0),
+      in-range-unmarked quantities.radiation (day .radiation) tt (each .1 .1 .1 .1 .0),
+      in-range-unmarked quantities.wind (day .wind) tt (each .1 .1 .1 .1 .1 .0),
+    )
 
 -- ---- the tables' entries
 

@@ -5,3 +5,5 @@ pub mod Means
 pub mod Judgement
 pub mod Equation
 pub mod Bound
+pub mod HandedIn
+pub mod Told

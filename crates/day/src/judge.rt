@@ -1,122 +1,149 @@
-// A day judged: its figure, or the first refusal that holds of it. The caller is asked nothing.
+// A day handed in alone, as a station, a day and earlier means or as the numbers of their fields. One function of numbers serves both: compiled, it
+// holds all of the judgement and no struct.
 ghost use mathlib.Core.Path.{_≡_};
-ghost use mathlib.Core.Bool.{not, cond};
-ghost use mathlib.Core.List.{[], _∷_};
-ghost use lib.IntN.{natAbs};
 ghost use Rattle.numbers.specs.Ranges.{InRange};
-ghost use Rattle.sheet.specs.Accepted.{ReadingsInRange, EntriesInRange, EarlierInRange};
 ghost use Rattle.sheet.specs.Quantities as quantities;
-ghost use Rattle.sheet.specs.StepSheet as sheet;
-ghost use Rattle.day.specs.Calendar.{isDate};
-ghost use Rattle.day.specs.Rules.{anyOf, stationFaults, missingMarks, readingFaults, meanFault, orderFaults};
-ghost use Rattle.day.specs.declared.Refusal.the-variants.{AboveClear, SumBelowOne};
-ghost use Rattle.day.specs.declared.Verdict.the-variants.{Figure, Refused};
-ghost use Rattle.day.specs.Judgement.{judged};
 ghost use Rattle.day.specs.Bound.{FigureOwed};
+ghost use Rattle.day.specs.HandedIn.{stationOf, dayOf, meanOf, threeBefore, isPresent};
+ghost use Rattle.day.specs.Judgement.{judged, tenthsOf};
+ghost use Rattle.day.specs.Told.{said, saidBy, verdictSaid, FigureSaid, refusalOf, verdictIn};
+use crate::Code;
 use crate::Day;
 use crate::Earlier;
 use crate::Mean;
 use crate::Refusal;
 use crate::Station;
 use crate::Verdict;
-use crate::calendar::is_date;
-use crate::inputs::clear_of;
-use crate::inputs::earlier_of;
-use crate::inputs::entries_at;
-use crate::inputs::readings_of;
-use crate::rules::bad_station;
-use crate::rules::mean_out_of_range;
-use crate::rules::out_of_order;
-use crate::rules::some_missing;
-use crate::rules::some_out_of_range;
-use sheet::Entries;
-use sheet::Readings;
+use crate::decide::decide;
 
-// Refusal 3.
-fn station_refused(station: Station) -> bool
-    ensures { λ r. ⌜ r ≡ anyOf (stationFaults (station .code .first) (station .code .second) (station .code .third) (station .code .fourth) (station .minimum) (station .elevation)) ⌝ }
+// A refusal's number, 0 for none, in the high half, and a value in the low half.
+pub fn packed(number: u32, value: u32) -> u64
+    ensures { λ r. ⌜ saidBy r ≡ said number value ⌝ }
 {
-    let code = station.code;
-    bad_station(
-        code.first,
-        code.second,
-        code.third,
-        code.fourth,
-        station.minimum,
-        station.elevation,
-    )
+    (number as u64) * 4_294_967_296 + (value as u64)
 }
 
-// Refusal 6, the calendar's part.
-fn date_refused(day: Day) -> bool
-    ensures { λ r. ⌜ r ≡ not (isDate (day .year) (day .d)) ⌝ }
+// An earlier mean, if there is one.
+fn mean_of(present: bool, tenths: i16) -> Mean
+    ensures { λ r. ⌜ r ≡ meanOf present tenths ⌝ }
 {
-    !is_date(day.year, day.d)
-}
-
-// Refusal 7.
-fn missing_refused(day: Day) -> bool
-    ensures { λ r. ⌜ r ≡ anyOf (missingMarks (day .maximum) (day .minimum) (day .mean) (day .dewpoint) (day .radiation) (day .wind)) ⌝ }
-{
-    some_missing(
-        day.maximum,
-        day.minimum,
-        day.mean,
-        day.dewpoint,
-        day.radiation,
-        day.wind,
-    )
-}
-
-// Refusal 8, of the readings.
-fn readings_refused(day: Day) -> bool
-    ensures { λ r. ⌜ r ≡ anyOf (readingFaults (day .maximum) (day .minimum) (day .mean) (day .dewpoint) (day .radiation) (day .wind)) ⌝ }
-{
-    some_out_of_range(
-        day.maximum,
-        day.minimum,
-        day.mean,
-        day.dewpoint,
-        day.radiation,
-        day.wind,
-    )
-}
-
-// Refusal 8, of the earlier means.
-fn means_refused(earlier: Earlier) -> bool
-    ensures { λ r. ⌜ r ≡ anyOf (meanFault (earlier .one) ∷ meanFault (earlier .two) ∷ meanFault (earlier .three) ∷ []) ⌝ }
-{
-    let one = earlier.one;
-    let two = earlier.two;
-    let three = earlier.three;
-    if mean_out_of_range(one) {
-        return true;
+    if present {
+        return Mean::Present(tenths);
     }
-    if mean_out_of_range(two) {
-        return true;
-    }
-    mean_out_of_range(three)
+    Mean::Absent
 }
 
-// Refusal 9.
-fn order_refused(day: Day) -> bool
-    ensures { λ r. ⌜ r ≡ anyOf (orderFaults (day .maximum) (day .minimum) (day .mean) (day .dewpoint)) ⌝ }
+// The verdict of a day handed in as numbers, in one number.
+pub fn verdict_number(
+    first: u8,
+    second: u8,
+    third: u8,
+    fourth: u8,
+    c1: i16,
+    c2: i16,
+    c3: i16,
+    c4: i16,
+    c5: i16,
+    clear_minimum: u16,
+    elevation: u16,
+    year: u16,
+    d: u16,
+    maximum: i16,
+    minimum: i16,
+    mean: i16,
+    dewpoint: i16,
+    radiation: i16,
+    wind: i16,
+    has_one: bool,
+    one: i16,
+    has_two: bool,
+    two: i16,
+    has_three: bool,
+    three: i16,
+) -> u64
+    ensures { λ r. ⌜ saidBy r ≡ verdictSaid (judged (stationOf first second third fourth c1 c2 c3 c4 c5 «clear_minimum» elevation) (dayOf year d maximum minimum mean dewpoint radiation wind) (threeBefore «has_one» one «has_two» two «has_three» three)) ⌝ }
+    ensures { λ r. ⌜ FigureSaid (stationOf first second third fourth c1 c2 c3 c4 c5 «clear_minimum» elevation) (dayOf year d maximum minimum mean dewpoint radiation wind) (threeBefore «has_one» one «has_two» two «has_three» three) r ⌝ }
 {
-    out_of_order(day.maximum, day.minimum, day.mean, day.dewpoint)
+    let code = Code {
+        first,
+        second,
+        third,
+        fourth,
+    };
+    let station = Station {
+        code,
+        c1,
+        c2,
+        c3,
+        c4,
+        c5,
+        minimum: clear_minimum,
+        elevation,
+    };
+    let day = Day {
+        year,
+        d,
+        maximum,
+        minimum,
+        mean,
+        dewpoint,
+        radiation,
+        wind,
+    };
+    let earlier = Earlier {
+        one: mean_of(has_one, one),
+        two: mean_of(has_two, two),
+        three: mean_of(has_three, three),
+    };
+    match decide(station, day, earlier) {
+        Verdict::Figure(n) => packed(0, n),
+        Verdict::Refused(why) => packed(why.number(), 0),
+    }
 }
 
-// Refusals 10 and 11 and the figure: the sheet worked.
-fn worked(x: Readings, t: Entries, means: sheet::Earlier, q: i64) -> Verdict
-    requires { ⌜ ReadingsInRange x × EntriesInRange t × EarlierInRange means × InRange quantities.clearDay q ⌝ }
-    ensures { λ r. ⌜ r ≡ cond (sheet.aboveTwiceClear (x .radiation) q) (Refused AboveClear) (cond (sheet.sumBelowOne x t) (Refused SumBelowOne) (Figure (natAbs (sheet.figure x t means q)))) ⌝ }
+fn is_present(mean: Mean) -> bool
+    ensures { λ r. ⌜ r ≡ isPresent mean ⌝ }
 {
-    if sheet::clear::above_twice_clear(x.radiation, q) {
-        return Verdict::Refused(Refusal::AboveClear);
+    match mean {
+        Mean::Present(_) => true,
+        Mean::Absent => false,
     }
-    if sheet::figure::sum_below_one(x, t) {
-        return Verdict::Refused(Refusal::SumBelowOne);
+}
+
+// The mean, or 0 for none.
+fn tenths_or_zero(mean: Mean) -> i16
+    ensures { λ r. ⌜ (r ≡ tenthsOf mean) × InRange quantities.signedWord r ⌝ }
+{
+    match mean {
+        Mean::Present(f) => f,
+        Mean::Absent => 0,
     }
-    Verdict::Figure(sheet::figure::figure(x, t, means, q) as u32)
+}
+
+// The refusal that a number names.
+fn refusal_of(number: u32) -> Refusal
+    ensures { λ r. ⌜ r ≡ refusalOf number ⌝ }
+{
+    match number {
+        3 => Refusal::StationField,
+        6 => Refusal::BadDate,
+        7 => Refusal::Missing,
+        8 => Refusal::OutOfRange,
+        9 => Refusal::OutOfOrder,
+        10 => Refusal::AboveClear,
+        _ => Refusal::SumBelowOne,
+    }
+}
+
+// The verdict that a number tells.
+fn verdict_told(told: u64) -> Verdict
+    ensures { λ r. ⌜ r ≡ verdictIn (saidBy told) ⌝ }
+{
+    let number = (told / 4_294_967_296) as u32;
+    if number == 0 {
+        return Verdict::Figure((told % 4_294_967_296) as u32);
+    }
+    Verdict::Refused(refusal_of(number))
 }
 
 // A day handed in alone.
@@ -124,27 +151,36 @@ pub fn judge(station: Station, day: Day, earlier: Earlier) -> Verdict
     ensures { λ r. ⌜ r ≡ judged station day earlier ⌝ }
     ensures { λ r. ⌜ FigureOwed station day earlier r ⌝ }
 {
-    if station_refused(station) {
-        return Verdict::Refused(Refusal::StationField);
-    }
-    if date_refused(day) {
-        return Verdict::Refused(Refusal::BadDate);
-    }
-    if missing_refused(day) {
-        return Verdict::Refused(Refusal::Missing);
-    }
-    if readings_refused(day) {
-        return Verdict::Refused(Refusal::OutOfRange);
-    }
-    if means_refused(earlier) {
-        return Verdict::Refused(Refusal::OutOfRange);
-    }
-    if order_refused(day) {
-        return Verdict::Refused(Refusal::OutOfOrder);
-    }
-    let x = readings_of(day);
-    let t = entries_at(day.d, station.elevation);
-    let means = earlier_of(earlier);
-    let q = clear_of(station, day);
-    worked(x, t, means, q)
+    let code = station.code;
+    let one = earlier.one;
+    let two = earlier.two;
+    let three = earlier.three;
+    let told = verdict_number(
+        code.first,
+        code.second,
+        code.third,
+        code.fourth,
+        station.c1,
+        station.c2,
+        station.c3,
+        station.c4,
+        station.c5,
+        station.minimum,
+        station.elevation,
+        day.year,
+        day.d,
+        day.maximum,
+        day.minimum,
+        day.mean,
+        day.dewpoint,
+        day.radiation,
+        day.wind,
+        is_present(one),
+        tenths_or_zero(one),
+        is_present(two),
+        tenths_or_zero(two),
+        is_present(three),
+        tenths_or_zero(three),
+    );
+    verdict_told(told)
 }

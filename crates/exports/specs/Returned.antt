@@ -1,41 +1,8 @@
--- What a returned number says. Every number of 64 bits says one thing, and no two say the same (proofs/Returned.antt, `told-apart`).
--- Assumes nothing.
-use mathlib.Core.Bool.{cond}
-use mathlib.Core.Path.{_≡_}
-use Prim.Native.Nat.{ℕ, _/_, _%_}
-use lib.Dec.{eqb}
-use Rattle.day.specs.Bound.{WithinBound}
-use Rattle.day.specs.Judgement.{Answered}
-use Rattle.day.specs.Rules.{numberOf}
-use Rattle.day.specs.declared.Day.{Day}
-use Rattle.day.specs.declared.Earlier.{Earlier}
-use Rattle.day.specs.declared.Station.{Station}
-use Rattle.day.specs.declared.Verdict.{Verdict}
-use Rattle.day.specs.declared.Verdict.the-variants as Verdict
+-- What a returned number says of a log: read as the number of a verdict is. Assumes nothing.
+use Rattle.day.specs.Told.{Said, accepted, refused}
 use Rattle.log.specs.declared.Outcome.{Outcome}
-use Rattle.log.specs.declared.Outcome.the-variants as Outcome
-
--- a figure or a length; or a refusal's number, with its offset or the length needed, and 0 where it has neither
-pub data Said : Type 0 where
-  accepted : ℕ → Said
-  refused : ℕ → ℕ → Said
-
--- the number of no refusal is 0
-abbrev pub said : ℕ → ℕ → Said
-said number value = cond (eqb number 0) (accepted value) (refused number value)
-
--- the high half is the refusal's number, the low half the value
-unfoldable pub saidBy : ℕ → Said
-saidBy r = said (r / 4294967296) (r % 4294967296)
-
-abbrev pub verdictSaid : Verdict → Said
-verdictSaid (Verdict.Figure n) = accepted n
-verdictSaid (Verdict.Refused why) = refused (numberOf why) 0
+use Rattle.log.specs.declared.Outcome.the-variants.{Written, Refused}
 
 abbrev pub outcomeSaid : Outcome → Said
-outcomeSaid (Outcome.Written n) = accepted n
-outcomeSaid (Outcome.Refused k place) = refused k place
-
--- Demand 3, of the returned number: an answered day has a figure there, within the bound
-unfoldable pub FigureSaid : Station → Day → Earlier → ℕ → Type 0
-FigureSaid st x earlier r = Answered st x earlier → (n : ℕ) × (saidBy r ≡ accepted n) × WithinBound st x earlier n
+outcomeSaid (Written n) = accepted n
+outcomeSaid (Refused k place) = refused k place

@@ -1,4 +1,4 @@
--- `day::judge::readings_refused` meets its contract. Assumes nothing.
+-- `day::decide::readings_refused` meets its contract. Assumes nothing.
 use mathlib.Core.Path.{_∙_}
 use native.Mathlib.Omega.{arith}
 use borrow.Author.Needs.{needs}
@@ -6,8 +6,8 @@ use mir.Syntax.{w16}
 use mir.Val.{SFits}
 use Rattle.day.specs.Rules.{anyOf, readingFaults}
 use Rattle.day.proofs.Tests.{as-read-six}
-use Rattle.day.proofs.judge.readings_refused.Statement.{statement}
-use Rattle.day.proofs.judge.readings_refused.Tie as tie
+use Rattle.day.proofs.decide.readings_refused.Statement.{statement}
+use Rattle.day.proofs.decide.readings_refused.Tie as tie
 
 returns : tie.Need-returns
 returns c =

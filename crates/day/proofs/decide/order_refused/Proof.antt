@@ -1,4 +1,4 @@
--- `day::judge::order_refused` meets its contract. Assumes nothing.
+-- `day::decide::order_refused` meets its contract. Assumes nothing.
 use mathlib.Core.Path.{_∙_}
 use native.Mathlib.Omega.{arith}
 use borrow.Author.Needs.{needs}
@@ -6,8 +6,8 @@ use mir.Syntax.{w16}
 use mir.Val.{SFits}
 use Rattle.day.specs.Rules.{anyOf, orderFaults}
 use Rattle.day.proofs.Tests.{as-read-four}
-use Rattle.day.proofs.judge.order_refused.Statement.{statement}
-use Rattle.day.proofs.judge.order_refused.Tie as tie
+use Rattle.day.proofs.decide.order_refused.Statement.{statement}
+use Rattle.day.proofs.decide.order_refused.Tie as tie
 
 returns : tie.Need-returns
 returns c =

@@ -1,11 +1,11 @@
--- `exports::mean_of` meets its contract. Assumes nothing.
+-- `day::judge::mean_of` meets its contract. Assumes nothing.
 use mathlib.Core.Bool.{Bool}
 use mathlib.Core.Path.{sym, ap, _∙_}
 use mir.Facts.{toZ-ofZ}
 use Rattle.day.specs.declared.Mean.the-variants.{Present}
-use Rattle.exports.specs.HandedIn.{meanOf}
-use Rattle.exports.proofs.mean_of.Statement.{statement}
-use Rattle.exports.proofs.mean_of.Tie as tie
+use Rattle.day.specs.HandedIn.{meanOf}
+use Rattle.day.proofs.judge.mean_of.Statement.{statement}
+use Rattle.day.proofs.judge.mean_of.Tie as tie
 
 returns : tie.Need-returns
 returns c =

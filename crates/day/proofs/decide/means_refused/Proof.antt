@@ -1,9 +1,9 @@
--- `day::judge::means_refused` meets its contract. Assumes nothing.
+-- `day::decide::means_refused` meets its contract. Assumes nothing.
 use mathlib.Core.Path.{sym, _∙_}
 use borrow.Author.Needs.{needs}
 use Rattle.day.proofs.Tests.{first-there, any-last}
-use Rattle.day.proofs.judge.means_refused.Statement.{statement}
-use Rattle.day.proofs.judge.means_refused.Tie as tie
+use Rattle.day.proofs.decide.means_refused.Statement.{statement}
+use Rattle.day.proofs.decide.means_refused.Tie as tie
 
 returns : tie.Need-returns
 returns c = search needs

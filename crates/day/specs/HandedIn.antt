@@ -42,5 +42,10 @@ meanOf true tenths = Present tenths
 meanOf false tenths = Absent
 
 -- the means of the three calendar days before, the nearest first
-abbrev pub earlierOf : Bool → ℤ → Bool → ℤ → Bool → ℤ → Earlier
-earlierOf hasOne one hasTwo two hasThree three = record { one = meanOf hasOne one; two = meanOf hasTwo two; three = meanOf hasThree three }
+abbrev pub threeBefore : Bool → ℤ → Bool → ℤ → Bool → ℤ → Earlier
+threeBefore hasOne one hasTwo two hasThree three = record { one = meanOf hasOne one; two = meanOf hasTwo two; three = meanOf hasThree three }
+
+-- whether a mean is present
+abbrev pub isPresent : Mean → Bool
+isPresent (Present f) = true
+isPresent Absent = false

@@ -1,9 +1,9 @@
--- `day::judge::date_refused` meets its contract. Assumes nothing.
+-- `day::decide::date_refused` meets its contract. Assumes nothing.
 use mathlib.Core.Path.{ap}
 use mathlib.Core.Bool.{not}
 use borrow.Author.Needs.{needs}
-use Rattle.day.proofs.judge.date_refused.Statement.{statement}
-use Rattle.day.proofs.judge.date_refused.Tie as tie
+use Rattle.day.proofs.decide.date_refused.Statement.{statement}
+use Rattle.day.proofs.decide.date_refused.Tie as tie
 
 returns : tie.Need-returns
 returns c = ap not (c .is-date .ensures)

@@ -1,4 +1,4 @@
--- `day::judge::worked` meets its contract, from those of what it calls. Assumes nothing.
+-- `day::decide::worked` meets its contract, from those of what it calls. Assumes nothing.
 use mathlib.Core.Path.{_≡_, sym, _∙_, ap}
 use native.Mathlib.Omega.{arith}
 use borrow.Author.Needs.{needs}
@@ -10,8 +10,8 @@ use Rattle.sheet.specs.StepSheet as sheet
 use Rattle.sheet.proofs.Values.{read, keep, given-back, is-nonNeg, natAbs-in}
 use Rattle.day.specs.declared.Verdict.the-variants.{Figure}
 use Rattle.day.proofs.Tests.{first-here, first-there}
-use Rattle.day.proofs.judge.worked.Statement.{statement}
-use Rattle.day.proofs.judge.worked.Tie as tie
+use Rattle.day.proofs.decide.worked.Statement.{statement}
+use Rattle.day.proofs.decide.worked.Tie as tie
 
 above-is : (c : tie.After-above-twice-clear) → c .above-twice-clear .result ≡ sheet.aboveTwiceClear (c .before .before .args .x .radiation) (c .before .before .args .q)
 above-is c =

@@ -1,8 +1,8 @@
--- `exports::packed` meets its contract. Assumes nothing.
+-- `day::judge::packed` meets its contract. Assumes nothing.
 use borrow.Author.Needs.{needs}
-use Rattle.exports.proofs.Returned.{halves-said}
-use Rattle.exports.proofs.packed.Statement.{statement}
-use Rattle.exports.proofs.packed.Tie as tie
+use Rattle.day.proofs.Told.{halves-said}
+use Rattle.day.proofs.judge.packed.Statement.{statement}
+use Rattle.day.proofs.judge.packed.Tie as tie
 
 returns : tie.Need-returns
 returns c = halves-said (c .args .number) (c .args .value) (c .fits .value .fits)
