@@ -1,4 +1,4 @@
-//! Links the static library that `rt staticlib exports` writes to ../target/staticlib, writes the numbers of the
+//! Links the static library that `rt staticlib exports` writes to ../target/staticlib, writes the entries of the
 //! library's table sources as Rust arrays for the plain version, and compiles the published routine where a Fortran
 //! compiler is installed.
 use std::env;
@@ -26,7 +26,7 @@ fn link_library(archive: &Path) {
     );
 }
 
-/// One `static` for each table, so that the plain version reads them as the library does: from constant memory.
+/// One `static` for each table, an entry for each index, so that the plain version reads them from constant memory.
 fn write_tables(sources: &Path, out: &Path) {
     println!("cargo:rerun-if-changed={}", sources.display());
     let tables = table_rows::tables(sources).expect("the sources of the library's tables");

@@ -1,16 +1,19 @@
 -- The rows of the tables: `day-row` and `pressure-row` make what a row holds of one test that antt computes over its entries, for any row.
 -- Assumes nothing.
 use mathlib.Core.Path.{_≡_, sym, subst}
-use mathlib.Core.Bool.{Bool, _&&_}
+use mathlib.Core.Logic.{⊎-elim}
+use mathlib.Core.Bool.{Bool, true, _&&_, _||_}
 use mathlib.Core.List.{List}
-use Prim.Native.Nat.{ℕ, _+_, _*_}
-use lib.Dec.{T, eqb→eq}
+use Prim.Native.Nat.{ℕ, zero, suc, _+_, _*_, _<_}
+use native.Mathlib.Nat.{not-suc-le-zero, not-le-of-lt, eq-or-lt-of-le}
+use native.Mathlib.Omega.{arith}
+use lib.Dec.{T, ltb, ltb→lt, leb, leb→le, eqb→eq}
 use lib.ListN.{getD}
+use mir.Facts.{or-yes}
 use Rattle.numbers.proofs.RangeArithmetic.{both}
 use Rattle.numbers.proofs.StrictOrder.{whole-times}
-use Rattle.tables.specs.Tables.{albedoRange, a1Range, awRange, bwRange, DayRow, PressureRow}
+use Rattle.tables.specs.Tables.{albedoRange, a1Range, awRange, bwRange, DayRow, along, PressureRow}
 use Rattle.tables.specs.Values.{albedoCurve, bellCurve, a1Bell, awBell, bwBell}
-use Rattle.numbers.proofs.TableRows.{rowTest, row-passes}
 use Rattle.tables.proofs.Curves.{entryTest}
 use Rattle.tables.proofs.Arcs.{albedo-entry}
 use Rattle.tables.proofs.Bells.{bell-entry}
@@ -45,10 +48,49 @@ day-row {d} {key} {r} e t = subst (λ (k : ℕ). DayRow k r) (sym e) (day-tested
 
 -- ---- the pressures
 
-abbrev pub pressuresTest : ℕ → List ℕ → Bool
-pressuresTest = rowTest 3000 pressureTest
+-- the test f passes at each number below n
+abbrev pub below : (ℕ → Bool) → ℕ → Bool
+below f zero = true
+below f (suc n) = below f n && f n
 
-pub pressure-row : {k key : ℕ} {r : List ℕ} → k ≡ key → T (pressuresTest (8 * key) r) → PressureRow (8 * k) r
-pressure-row {k} {key} {r} e t =
-    subst (λ (j : ℕ). PressureRow (8 * j) r) (sym e)
-    (record { entries = λ i h l. pressure-entry (8 * key + i) (getD r i 0) l (row-passes 3000 pressureTest (8 * key) r t i h l) })
+below-passes : (f : ℕ → Bool) (n : ℕ) → T (below f n) → (j : ℕ) → j < n → T (f j)
+below-passes f zero t j h = absurd (not-suc-le-zero h)
+below-passes f (suc n) t j h =
+    let passed = both (below f n) (f n) t in
+    ⊎-elim (λ (e : j ≡ n). subst (λ (k : ℕ). T (f k)) (sym e) (passed .1)) (below-passes f n (passed .0) j)
+    (eq-or-lt-of-le (omega (arith, h)))
+
+-- the metre j places on: its value passes, or it lies above 3,000
+abbrev pub metreTest : ℕ → List ℕ → ℕ → Bool
+metreTest start r j = ltb 3000 (start + j) || pressureTest (start + j) (along r j)
+
+abbrev pub boundsTest : List ℕ → Bool
+boundsTest r =
+    (leb 46000000000 (getD r 0 0) && leb (getD r 0 0) 67000000000) && (leb (getD r 1 0) 8000000 && leb (getD r 2 0) 400)
+
+abbrev pub pressuresTest : ℕ → List ℕ → Bool
+pressuresTest start r = boundsTest r && below (metreTest start r) 64
+
+pressures-tested : (start : ℕ) (r : List ℕ) → T (pressuresTest start r) → PressureRow start r
+pressures-tested start r t =
+    let a-low = leb 46000000000 (getD r 0 0) in
+    let a-high = leb (getD r 0 0) 67000000000 in
+    let b-high = leb (getD r 1 0) 8000000 in
+    let c-high = leb (getD r 2 0) 400 in
+    let passed = both (boundsTest r) (below (metreTest start r) 64) t in
+    let halves = both (a-low && a-high) (b-high && c-high) (passed .0) in
+    let first = both a-low a-high (halves .0) in
+    let second = both b-high c-high (halves .1) in
+    record {
+      a-low = leb→le _ _ (first .0);
+      a-high = leb→le _ _ (first .1);
+      b-high = leb→le _ _ (second .0);
+      c-high = leb→le _ _ (second .1);
+      entries = λ j h l.
+          pressure-entry (start + j) (along r j) l
+          (⊎-elim (λ above. absurd (not-le-of-lt (ltb→lt 3000 (start + j) above) l)) (λ near. near)
+          (or-yes (ltb 3000 (start + j)) (pressureTest (start + j) (along r j)) (below-passes (metreTest start r) 64 (passed .1) j h)));
+    }
+
+pub pressure-row : {k key : ℕ} {r : List ℕ} → k ≡ key → T (pressuresTest (64 * key) r) → PressureRow (64 * k) r
+pressure-row {k} {key} {r} e t = subst (λ (j : ℕ). PressureRow (64 * j) r) (sym e) (pressures-tested (64 * key) r t)

@@ -1,9 +1,9 @@
 -- What each entry of the five constant tables is: the published formulas, in document 01's order. Assumes nothing.
 use mathlib.Core.Path.{_≡_}
 use mathlib.Core.List.{List}
-use Prim.Native.Nat.{ℕ, _+_, _<_, _≤_}
+use Prim.Native.Nat.{ℕ, _+_, _*_, _-_, _/_, _<_, _≤_}
 use lib.IntN.{pos}
-use lib.ListN.{length, getD}
+use lib.ListN.{getD}
 use Rattle.numbers.specs.Ranges.{Range, InRange, from_to_}
 use Rattle.numbers.specs.Fractions.{ℚ, fromℤ, _/ℚ_, _+ℚ_, _-ℚ_, _*ℚ_, _^ℚ_, _≤ℚ_, _<ℚ_}
 use Rattle.tables.specs.Series.{expTerm, sinTerm, NearestOfSeries}
@@ -89,7 +89,15 @@ pub record DayRow (d : ℕ) (r : List ℕ) : Type 0 where
   pub aw : Entry (awAt d) (AwEntry d) awRange (getD r 2 0)
   pub bw : Entry (bwAt d) (BwEntry d) bwRange (getD r 3 0)
 
--- the pressures of the metres from `start` on, as far as 3,000
+-- the value j places on in a row [a, b, c]: (a + c·j² - b·j)/65,536, down
+unfoldable pub along : List ℕ → ℕ → ℕ
+along r j = (getD r 0 0 + getD r 2 0 * j * j - getD r 1 0 * j) / 65536
+
+-- the pressures of the 64 metres from `start` on, as far as 3,000, by a row so bounded that their sums fit 64 bits and none falls below zero
 pub record PressureRow (start : ℕ) (r : List ℕ) : Type 0 where
-  pub entries : (i : ℕ) → i < length r → start + i ≤ 3000 →
-      Entry (pressureAt (start + i)) (PressureEntry (start + i)) pressureRange (getD r i 0)
+  pub a-low : 46000000000 ≤ getD r 0 0
+  pub a-high : getD r 0 0 ≤ 67000000000
+  pub b-high : getD r 1 0 ≤ 8000000
+  pub c-high : getD r 2 0 ≤ 400
+  pub entries : (j : ℕ) → j < 64 → start + j ≤ 3000 →
+      Entry (pressureAt (start + j)) (PressureEntry (start + j)) pressureRange (along r j)

@@ -14,6 +14,7 @@ pub fn pressure(e: usize) -> u32
     requires { ⌜ e ≤ 3000 ⌝ }
     ensures { λ r. ⌜ Entry (pressureAt e) (PressureEntry e) pressureRange r ⌝ }
 {
-    let row = pressure_row(e / 8);
-    row[e % 8]
+    let row = pressure_row(e / 64);
+    let j = (e % 64) as u64;
+    ((row[0] + row[2] * j * j - row[1] * j) / 65_536) as u32
 }
