@@ -18,6 +18,7 @@ pub mod RoundedRoot
 pub mod RoundedLimit
 pub mod RangeArithmetic
 pub mod RangeTests
+pub mod Signs
 pub mod TableRows
 pub mod Reflection
 pub mod WholeRoots

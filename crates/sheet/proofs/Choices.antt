@@ -1,14 +1,13 @@
 -- What a test on signed numbers tells in its two branches: which arm of a `cond` is meant, and the range that is left. Assumes nothing.
-use mathlib.Core.Path.{_≡_, refl, ap}
+use mathlib.Core.Path.{_≡_, ap}
 use mathlib.Core.Bool.{Bool, true, false, cond}
-use Prim.Native.Nat.{ℕ, suc, _+_}
+use Prim.Native.Nat.{ℕ, _+_}
 use native.Mathlib.Omega.{arith}
-use lib.IntN.{ℤ, pos, negsuc, _-ℤ_, +ℤ-idl}
+use lib.IntN.{ℤ, pos, negsuc}
 use lib.Signed.{ltZ, leZ}
 use mir.Syntax.{w64}
 use mir.Val.{ofZ}
-use borrow.Author.Tests.{ltb-true, ltb-false, leb-false}
-use Rattle.numbers.specs.Whole.{absℤ}
+use borrow.Author.Tests.{ltb-false, leb-false}
 use Rattle.numbers.specs.Ranges.{InRange, from_to_, minus_to_}
 
 -- the machine tests a and b, which are a′ and b′
@@ -18,14 +17,6 @@ module _ (test : ℤ → ℤ → Bool) {a a′ b b′ : ℤ} (p : a ≡ a′) (q
 
   pub left : test a b ≡ false → y ≡ cond (test a′ b′) x y
   left e = rw (← p, ← q, e)
-
-pub absolute-below : (x : ℤ) → ltZ x (pos 0) ≡ true → pos 0 -ℤ x ≡ absℤ x
-absolute-below (pos n) e = absurd (omega (arith, ltb-true n 0 e))
-absolute-below (negsuc n) e = +ℤ-idl (pos (suc n))
-
-pub absolute-not-below : (x : ℤ) → ltZ x (pos 0) ≡ false → x ≡ absℤ x
-absolute-not-below (pos n) e = refl
-absolute-not-below (negsuc n) e = let z : _≡_ {A = ℕ} 0 1 = cc in absurd (omega arith)
 
 -- a test on the bits of a number that is not below 0
 pub is-number : {a b k : ℕ} {z : ℤ} → InRange (from a to b) z → ofZ w64 z ≡ k → z ≡ pos k

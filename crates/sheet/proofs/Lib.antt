@@ -3,4 +3,3 @@ pub mod Values
 pub mod Choices
 pub mod Laws
 pub mod Powers
-pub mod Roots

@@ -1,4 +1,4 @@
--- U and its powers V2 to V8 as expressions on i64 values, of a temperature f. Assumes nothing.
+-- U and its powers V2 to V7 as expressions on i64 values, of a temperature f. Assumes nothing.
 use Rattle.numbers.proofs.Reflection.{MachineExpression, lit, _+ᵐ_, _*ᵐ_, _÷↓ᵐ_}
 
 abbrev pub u : MachineExpression → MachineExpression
@@ -9,9 +9,6 @@ v2 f = u f *ᵐ u f ÷↓ᵐ lit 10
 
 abbrev pub v4 : MachineExpression → MachineExpression
 v4 f = v2 f *ᵐ v2 f ÷↓ᵐ lit 1_000_000_000
-
-abbrev pub v8 : MachineExpression → MachineExpression
-v8 f = v4 f *ᵐ v4 f ÷↓ᵐ lit 1_000_000_000
 
 abbrev pub v6 : MachineExpression → MachineExpression
 v6 f = v4 f *ᵐ v2 f ÷↓ᵐ lit 1_000_000_000

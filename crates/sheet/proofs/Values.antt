@@ -2,10 +2,10 @@
 use mathlib.Core.Path.{_≡_, sym, ap, _∙_, subst}
 use mathlib.Core.Bool.{_&&_}
 use mathlib.Core.List.{List, _∷_}
-use Prim.Native.Nat.{ℕ, _≤_}
+use Prim.Native.Nat.{ℕ}
 use lib.Dec.{T, lt→ltb}
-use lib.IntN.{ℤ, pos, negsuc, natAbs}
-use lib.Signed.{nonNeg, _<ℤ_}
+use lib.IntN.{ℤ, pos, negsuc}
+use lib.Signed.{_<ℤ_}
 use mir.Facts.{toZ-ofZ}
 use Rattle.numbers.specs.Ranges.{Range, from_to_, InRange}
 use Rattle.numbers.proofs.RangeArithmetic.{fits-i64, inside, range-fits}
@@ -22,14 +22,6 @@ keep {r} p t = subst (InRange r) (sym (read p t)) p
 pub is-positive : {b : ℕ} {z : ℤ} → InRange (from 1 to b) z → pos 0 <ℤ z
 is-positive {z = pos n} p = record { lt = lt→ltb 0 n (p .bounds .0) }
 is-positive {z = negsuc n} p = absurd (p .bounds)
-
-pub is-nonNeg : {a b : ℕ} {z : ℤ} → InRange (from a to b) z → T (nonNeg z)
-is-nonNeg {z = pos n} p = tt
-is-nonNeg {z = negsuc n} p = absurd (p .bounds)
-
-pub natAbs-in : {a b : ℕ} {z : ℤ} → InRange (from a to b) z → (a ≤ natAbs z) × (natAbs z ≤ b)
-natAbs-in {z = pos n} p = p .bounds
-natAbs-in {z = negsuc n} p = absurd (p .bounds)
 
 pub ap₃ : (f : ℤ → ℤ → ℤ → ℤ) {x x′ y y′ z z′ : ℤ} → x ≡ x′ → y ≡ y′ → z ≡ z′ → f x y z ≡ f x′ y′ z′
 ap₃ f p q r = λ i. f (p i) (q i) (r i)

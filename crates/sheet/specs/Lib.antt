@@ -1,7 +1,6 @@
 -- The definitions that the contracts of the sheet cite. A reader needs StepSheet; Quantities gives the ranges between which the code is proved,
--- Accepted says which days it is for, Roots what a row of the table of roots holds, and Parts names two steps between the lines and the figure.
+-- Accepted says which days it is for, and Parts names two steps between the lines and the figure.
 pub mod StepSheet
 pub mod Quantities
 pub mod Accepted
-pub mod Roots
 pub mod Parts

@@ -4,7 +4,6 @@
 pub mod clear;
 pub mod figure;
 pub mod radiation;
-mod root_table;
 pub mod temperature;
 pub mod weights;
 pub mod wind;

@@ -5,7 +5,6 @@ ghost use Rattle.numbers.specs.Ranges.{InRange};
 ghost use Rattle.sheet.specs.Parts as parts;
 ghost use Rattle.sheet.specs.Quantities as quantities;
 ghost use Rattle.sheet.specs.StepSheet as sheet;
-use crate::root_table::root_row;
 
 // ρ, of the radiation and the clear-day radiation.
 pub fn ratio(s: i64, q: i64) -> i64
@@ -37,16 +36,6 @@ pub fn emission(maximum: i64, minimum: i64) -> i64
     let high2 = high * high / 100;
     let low2 = low * low / 100;
     4_903 * ((high2 * high2 + low2 * low2) / 1_000_000) / 13_122_000
-}
-
-// r, at the dew point.
-pub fn root(dewpoint: i64) -> i64
-    requires { ⌜ InRange quantities.temperature dewpoint ⌝ }
-    ensures { λ r. ⌜ (r ≡ sheet.r (sheet.e dewpoint)) × InRange quantities.root r ⌝ }
-{
-    let above = (dewpoint + 94) as usize;
-    let row = root_row(above / 4);
-    row[above % 4] as i64
 }
 
 // The emittance, which may be negative.
@@ -107,7 +96,7 @@ pub fn outgoing(maximum: i64, minimum: i64, dewpoint: i64, a1: i64, s: i64, q: i
     requires { ⌜ sheet.aboveTwiceClear s q ≡ false ⌝ }
     ensures { λ r. ⌜ (r ≡ parts.outgoing maximum minimum dewpoint a1 s q) × InRange quantities.backRadiation r ⌝ }
 {
-    let r = root(dewpoint);
+    let r = vapour::root(dewpoint);
     let share = emittance(a1, r);
     let b = emission(maximum, minimum);
     let k = cloud_factor(s, q);

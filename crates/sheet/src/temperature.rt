@@ -1,33 +1,8 @@
-// What a temperature gives: the vapour pressure e, the slope D and the latent heat M.
+// What the mean temperature gives: the slope D and the latent heat M.
 ghost use mathlib.Core.Path.{_≡_};
-ghost use Rattle.numbers.specs.Whole.{absℤ};
 ghost use Rattle.numbers.specs.Ranges.{InRange};
 ghost use Rattle.sheet.specs.Quantities as quantities;
 ghost use Rattle.sheet.specs.StepSheet as sheet;
-
-// |x|
-pub fn absolute(x: i64) -> i64
-    requires { ⌜ InRange quantities.fromMinusSixteen x ⌝ }
-    ensures { λ r. ⌜ r ≡ absℤ x ⌝ }
-{
-    if x < 0 {
-        return 0 - x;
-    }
-    x
-}
-
-// e, at the temperature f.
-pub fn vapour_pressure(f: i64) -> i64
-    requires { ⌜ InRange quantities.temperature f ⌝ }
-    ensures { λ r. ⌜ (r ≡ sheet.e f) × InRange quantities.vapourPressure r ⌝ }
-{
-    let u = 41 * f + 67_600;
-    let v2 = u * u / 10;
-    let v4 = v2 * v2 / 1_000_000_000;
-    let v8 = v4 * v4 / 1_000_000_000;
-    let distance = absolute(f + 160);
-    (v8 - 1_900 * distance + 1_316_000) * 338_639 / 100_000
-}
 
 // D, at the mean m.
 pub fn slope(m: i64) -> i64

@@ -5,9 +5,10 @@ use borrow.Author.Needs.{needs}
 use lib.IntN.{natAbs}
 use Rattle.numbers.specs.Ranges.{InRange}
 use Rattle.numbers.proofs.Reflection.{readBack}
+use Rattle.numbers.proofs.Signs.{is-nonNeg, natAbs-in}
 use Rattle.sheet.specs.Quantities as quantities
 use Rattle.sheet.specs.StepSheet as sheet
-use Rattle.sheet.proofs.Values.{read, keep, given-back, is-nonNeg, natAbs-in}
+use Rattle.sheet.proofs.Values.{read, keep, given-back}
 use Rattle.day.specs.declared.Verdict.the-variants.{Figure}
 use Rattle.day.proofs.Tests.{first-here, first-there}
 use Rattle.day.proofs.decide.worked.Statement.{statement}

@@ -1,0 +1,2 @@
+-- Modules of this crate's proofs that belong to no one function.
+pub mod Rows
