@@ -84,7 +84,7 @@ static void judge_first_day(const uint8_t *station, const uint8_t *day, const ui
     uint64_t returned = fuortwem_judge(
         s[0], s[1], s[2], s[3], tenths(s + 4), tenths(s + 6), tenths(s + 8), tenths(s + 10), tenths(s + 12), plain(s + 14),
         plain(s + 16), plain(d), plain(d + 2), tenths(d + 4), tenths(d + 6), tenths(d + 8), tenths(d + 10), tenths(d + 12),
-        tenths(d + 14), false, 0, false, 0, false, 0);
+        tenths(d + 14), 0, 0, 0, 0, 0, 0);
     uint32_t kind = refusal(returned) == 0 ? 3 : 4;
     uint32_t verdict = refusal(returned) == 0 ? value(returned) : refusal(returned);
     require(answer[0] == kind && memcmp(answer + 1, d, 4) == 0, "a day's answer begins with its kind and date");

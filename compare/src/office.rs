@@ -22,11 +22,11 @@ extern "C" {
         dewpoint: i16,
         radiation: i16,
         wind: i16,
-        has_one: bool,
+        has_one: u8,
         one: i16,
-        has_two: bool,
+        has_two: u8,
         two: i16,
-        has_three: bool,
+        has_three: u8,
         three: i16,
     ) -> u64;
 
@@ -64,11 +64,11 @@ pub fn judge(station: &Station, day: &Day, earlier: &Earlier) -> Verdict {
             day.dewpoint,
             day.radiation,
             day.wind,
-            one.is_some(),
+            one.is_some().into(),
             one.unwrap_or(0),
-            two.is_some(),
+            two.is_some().into(),
             two.unwrap_or(0),
-            three.is_some(),
+            three.is_some().into(),
             three.unwrap_or(0),
         )
     };

@@ -22,7 +22,6 @@
 #ifndef FUORTWEM_H
 #define FUORTWEM_H
 
-#include <stdbool.h>
 #include <stddef.h>
 #include <stdint.h>
 
@@ -56,16 +55,16 @@ extern "C" {
  * a degree Fahrenheit, -94 to 1,291; solar radiation in tenths of a cal/cm2/d, 0 to 12,000; wind run in tenths of a mile a day, 0 to 9,999.
  * A reading that is missing is -32,768 (FUORTWEM_MISSING).
  * Earlier means: of the three calendar days before, the nearest day first, in tenths of a degree Fahrenheit. has_one, has_two and has_three
- * tell whether each is there; one that is not there is not looked at. One that is there has the range of the other temperatures.
+ * tell whether each is there, 0 for no and any other number for yes; one that is not there is not looked at. One that is there has the range of the other temperatures.
  *
- * Nothing is asked of the caller: every range is checked here, and there are no pointers. A language without a bool passes a byte 0 or 1. */
+ * Nothing is asked of the caller: every range is checked here, and there are no pointers. */
 uint64_t fuortwem_judge(
     uint8_t first, uint8_t second, uint8_t third, uint8_t fourth,
     int16_t c1, int16_t c2, int16_t c3, int16_t c4, int16_t c5,
     uint16_t clear_minimum, uint16_t elevation,
     uint16_t year, uint16_t d,
     int16_t maximum, int16_t minimum, int16_t mean, int16_t dewpoint, int16_t radiation, int16_t wind,
-    bool has_one, int16_t one, bool has_two, int16_t two, bool has_three, int16_t three);
+    uint8_t has_one, int16_t one, uint8_t has_two, int16_t two, uint8_t has_three, int16_t three);
 
 /* Reads a log to its end and writes an answer for each record to the front of the answer buffer, in log order, or refuses the log.
  *

@@ -7,7 +7,7 @@ use native.Mathlib.Omega.{arith}
 use borrow.Author.Tests.{eqb-true}
 use lib.Dec.{eqb}
 use Rattle.day.specs.Bound.{FigureOwed}
-use Rattle.day.specs.HandedIn.{meanOf, isPresent}
+use Rattle.day.specs.HandedIn.{meanOf, flagOf}
 use Rattle.day.specs.Judgement.{judged, tenthsOf}
 use Rattle.day.specs.Rules.{numberOf}
 use Rattle.day.specs.Told.{Said, accepted, refused, said, saidBy, verdictSaid, FigureSaid, refusalOf, verdictIn}
@@ -77,7 +77,7 @@ pub verdict-back : (v : Verdict) → verdictIn (verdictSaid v) ≡ v
 verdict-back (Figure n) = refl
 verdict-back (Refused why) = ap Refused (refusal-back why)
 
-pub mean-back : (m : Mean) → meanOf (isPresent m) (tenthsOf m) ≡ m
+pub mean-back : (m : Mean) → meanOf (flagOf m) (tenthsOf m) ≡ m
 mean-back (Present f) = refl
 mean-back Absent = refl
 

@@ -1,6 +1,7 @@
 -- A station, a day and the earlier means from the numbers that are handed in for them. Assumes nothing.
-use mathlib.Core.Bool.{Bool, true, false}
+use mathlib.Core.Bool.{cond}
 use Prim.Native.Nat.{ℕ}
+use lib.Dec.{eqb}
 use lib.IntN.{ℤ}
 use Rattle.day.specs.declared.Day.{Day}
 use Rattle.day.specs.declared.Earlier.{Earlier}
@@ -36,16 +37,15 @@ dayOf year d maximum minimum mean dewpoint radiation wind =
       wind = wind;
     }
 
--- a mean in tenths, if it is present
-abbrev pub meanOf : Bool → ℤ → Mean
-meanOf true tenths = Present tenths
-meanOf false tenths = Absent
+-- a mean in tenths; a flag of 0 says that there is none
+abbrev pub meanOf : ℕ → ℤ → Mean
+meanOf flag tenths = cond (eqb flag 0) Absent (Present tenths)
 
 -- the means of the three calendar days before, the nearest first
-abbrev pub threeBefore : Bool → ℤ → Bool → ℤ → Bool → ℤ → Earlier
+abbrev pub threeBefore : ℕ → ℤ → ℕ → ℤ → ℕ → ℤ → Earlier
 threeBefore hasOne one hasTwo two hasThree three = record { one = meanOf hasOne one; two = meanOf hasTwo two; three = meanOf hasThree three }
 
--- whether a mean is present
-abbrev pub isPresent : Mean → Bool
-isPresent (Present f) = true
-isPresent Absent = false
+-- the flag of a mean
+abbrev pub flagOf : Mean → ℕ
+flagOf (Present f) = 1
+flagOf Absent = 0

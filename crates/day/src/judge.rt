@@ -4,7 +4,7 @@ ghost use mathlib.Core.Path.{_≡_};
 ghost use Rattle.numbers.specs.Ranges.{InRange};
 ghost use Rattle.sheet.specs.Quantities as quantities;
 ghost use Rattle.day.specs.Bound.{FigureOwed};
-ghost use Rattle.day.specs.HandedIn.{stationOf, dayOf, meanOf, threeBefore, isPresent};
+ghost use Rattle.day.specs.HandedIn.{stationOf, dayOf, meanOf, threeBefore, flagOf};
 ghost use Rattle.day.specs.Judgement.{judged, tenthsOf};
 ghost use Rattle.day.specs.Told.{said, saidBy, verdictSaid, FigureSaid, refusalOf, verdictIn};
 use crate::Code;
@@ -23,17 +23,17 @@ pub fn packed(number: u32, value: u32) -> u64
     (number as u64) * 4_294_967_296 + (value as u64)
 }
 
-// An earlier mean, if there is one.
-fn mean_of(present: bool, tenths: i16) -> Mean
-    ensures { λ r. ⌜ r ≡ meanOf present tenths ⌝ }
+// An earlier mean, unless its flag is 0.
+fn mean_of(flag: u8, tenths: i16) -> Mean
+    ensures { λ r. ⌜ r ≡ meanOf flag tenths ⌝ }
 {
-    if present {
-        return Mean::Present(tenths);
+    if flag == 0 {
+        return Mean::Absent;
     }
-    Mean::Absent
+    Mean::Present(tenths)
 }
 
-// The verdict of a day handed in as numbers, in one number.
+// The verdict of a day handed in as numbers, in one number. The flags are numbers too, so that each value that a caller can pass has a meaning.
 pub fn verdict_number(
     first: u8,
     second: u8,
@@ -54,11 +54,11 @@ pub fn verdict_number(
     dewpoint: i16,
     radiation: i16,
     wind: i16,
-    has_one: bool,
+    has_one: u8,
     one: i16,
-    has_two: bool,
+    has_two: u8,
     two: i16,
-    has_three: bool,
+    has_three: u8,
     three: i16,
 ) -> u64
     ensures { λ r. ⌜ saidBy r ≡ verdictSaid (judged (stationOf first second third fourth c1 c2 c3 c4 c5 «clear_minimum» elevation) (dayOf year d maximum minimum mean dewpoint radiation wind) (threeBefore «has_one» one «has_two» two «has_three» three)) ⌝ }
@@ -101,12 +101,13 @@ pub fn verdict_number(
     }
 }
 
-fn is_present(mean: Mean) -> bool
-    ensures { λ r. ⌜ r ≡ isPresent mean ⌝ }
+// 1 for a mean that is present.
+fn flag_of(mean: Mean) -> u8
+    ensures { λ r. ⌜ r ≡ flagOf mean ⌝ }
 {
     match mean {
-        Mean::Present(_) => true,
-        Mean::Absent => false,
+        Mean::Present(_) => 1,
+        Mean::Absent => 0,
     }
 }
 
@@ -175,11 +176,11 @@ pub fn judge(station: Station, day: Day, earlier: Earlier) -> Verdict
         day.dewpoint,
         day.radiation,
         day.wind,
-        is_present(one),
+        flag_of(one),
         tenths_or_zero(one),
-        is_present(two),
+        flag_of(two),
         tenths_or_zero(two),
-        is_present(three),
+        flag_of(three),
         tenths_or_zero(three),
     );
     verdict_told(told)

@@ -33,11 +33,11 @@ pub extern "C" fn fuortwem_judge(
     dewpoint: i16,
     radiation: i16,
     wind: i16,
-    has_one: bool,
+    has_one: u8,
     one: i16,
-    has_two: bool,
+    has_two: u8,
     two: i16,
-    has_three: bool,
+    has_three: u8,
     three: i16,
 ) -> u64
     ensures { λ r. ⌜ saidBy r ≡ verdictSaid (judged (stationOf first second third fourth c1 c2 c3 c4 c5 «clear_minimum» elevation) (dayOf year d maximum minimum mean dewpoint radiation wind) (threeBefore «has_one» one «has_two» two «has_three» three)) ⌝ }

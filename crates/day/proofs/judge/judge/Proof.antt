@@ -1,7 +1,7 @@
 -- `day::judge::judge` meets its contract: the fields are passed on as they are, since each fits its width, and the verdict is read back. Assumes
 -- nothing.
-use mathlib.Core.Bool.{Bool}
 use mathlib.Core.Path.{_≡_, _∙_}
+use Prim.Native.Nat.{ℕ}
 use native.Mathlib.Omega.{arith}
 use borrow.Author.Needs.{needs}
 use lib.IntN.{ℤ}
@@ -11,7 +11,7 @@ use mir.Val.{SFits}
 use Rattle.numbers.specs.Ranges.{InRange}
 use Rattle.numbers.proofs.RangeArithmetic.{range-fits-i16}
 use Rattle.sheet.specs.Quantities as quantities
-use Rattle.day.specs.HandedIn.{stationOf, dayOf, meanOf, isPresent}
+use Rattle.day.specs.HandedIn.{stationOf, dayOf, meanOf, flagOf}
 use Rattle.day.specs.Judgement.{tenthsOf}
 use Rattle.day.specs.declared.Mean.{Mean}
 use Rattle.day.proofs.Tests.{read16}
@@ -68,7 +68,7 @@ module _ (s : tie.Start) where
       (toZ-ofZ radiation-fits i) (toZ-ofZ wind-fits i)
 
 -- a mean taken apart and put together
-mean-is : (m : Mean) {b : Bool} {z : ℤ} → b ≡ isPresent m → (z ≡ tenthsOf m) × InRange quantities.signedWord z → meanOf b (read16 z) ≡ m
+mean-is : (m : Mean) {b : ℕ} {z : ℤ} → b ≡ flagOf m → (z ≡ tenthsOf m) × InRange quantities.signedWord z → meanOf b (read16 z) ≡ m
 mean-is m {b} {z} p q =
     (λ i. meanOf (p i) ((toZ-ofZ (range-fits-i16 quantities.signedWord z tt (q .1 .bounds)) ∙ q .0) i)) ∙ mean-back m
 
@@ -87,9 +87,9 @@ returns c =
     (station-is s)
     (day-is s)
     (λ i. record {
-      one = mean-is (earlier .one) (p1 .is-present .ensures) (t1 .tenths-or-zero .ensures) i;
-      two = mean-is (earlier .two) (p2 .is-present2 .ensures) (t2 .tenths-or-zero2 .ensures) i;
-      three = mean-is (earlier .three) (p3 .is-present3 .ensures) (t3 .tenths-or-zero3 .ensures) i;
+      one = mean-is (earlier .one) (p1 .flag-of .ensures) (t1 .tenths-or-zero .ensures) i;
+      two = mean-is (earlier .two) (p2 .flag-of2 .ensures) (t2 .tenths-or-zero2 .ensures) i;
+      three = mean-is (earlier .three) (p3 .flag-of3 .ensures) (t3 .tenths-or-zero3 .ensures) i;
     })
     _ (n .verdict-number .result) (c .verdict-told .ensures) (n .verdict-number .ensures .0) (n .verdict-number .ensures .1)
 

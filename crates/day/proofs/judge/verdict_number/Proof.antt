@@ -1,5 +1,4 @@
 -- `day::judge::verdict_number` meets its contract: the numbers handed in are passed on as they are, since each fits its width. Assumes nothing.
-use mathlib.Core.Bool.{Bool}
 use mathlib.Core.Path.{_≡_, sym, ap, _∙_}
 use Prim.Native.Nat.{ℕ}
 use lib.IntN.{ℤ}
@@ -18,8 +17,8 @@ use Rattle.day.proofs.Told.{refusal-said, verdict-said}
 use Rattle.day.proofs.judge.verdict_number.Statement.{statement}
 use Rattle.day.proofs.judge.verdict_number.Tie as tie
 
-mean-is : {m : Mean} (present : Bool) (tenths : ℤ) → SFits w16 tenths → m ≡ meanOf present (toZ w16 (ofZ w16 tenths)) → m ≡ meanOf present tenths
-mean-is present tenths fits e = e ∙ ap (meanOf present) (toZ-ofZ fits)
+mean-is : {m : Mean} (flag : ℕ) (tenths : ℤ) → SFits w16 tenths → m ≡ meanOf flag (toZ w16 (ofZ w16 tenths)) → m ≡ meanOf flag tenths
+mean-is flag tenths fits e = e ∙ ap (meanOf flag) (toZ-ofZ fits)
 
 module _ (c : tie.Start) where
   abbrev station : Station
