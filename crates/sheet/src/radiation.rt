@@ -12,7 +12,7 @@ pub fn ratio(s: i64, q: i64) -> i64
     requires { ⌜ InRange quantities.radiation s × InRange quantities.clearDay q × (sheet.aboveTwiceClear s q ≡ false) ⌝ }
     ensures { λ r. ⌜ (r ≡ sheet.ρ s q) × InRange quantities.ratio r ⌝ }
 {
-    100_000_000_000_000 * s / (q / 1_000)
+    numbers::quotient(100_000_000_000_000 * s, q / 1_000)
 }
 
 // K. The choice is by the exact numbers and not by the ratio, whose fraction is dropped.
