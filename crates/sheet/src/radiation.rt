@@ -1,7 +1,8 @@
 // The heat that is there to use: the radiation that comes in, what goes out, and what the soil takes.
 ghost use mathlib.Core.Bool.{false};
 ghost use mathlib.Core.Path.{_≡_};
-ghost use Rattle.numbers.specs.Ranges.{InRange};
+ghost use lib.IntN.{pos, _*ℤ_};
+ghost use Rattle.numbers.specs.Ranges.{InRange, from_to_};
 ghost use Rattle.sheet.specs.Parts as parts;
 ghost use Rattle.sheet.specs.Quantities as quantities;
 ghost use Rattle.sheet.specs.StepSheet as sheet;
@@ -74,7 +75,22 @@ pub fn net_radiation(albedo: i64, s: i64, rb: i64) -> i64
     (1_000_000_000 - albedo) * (41_868 * s) / 1_000_000_000 - rb
 }
 
-// The soil heat, of the mean m and the earlier means: how many, k, and their sum, z.
+// 6/k, of the number of earlier means k.
+fn times(k: i64) -> i64
+    requires { ⌜ InRange (from 1 to 3) k ⌝ }
+    ensures { λ r. ⌜ (r *ℤ k ≡ pos 6) × InRange (from 2 to 6) r ⌝ }
+{
+    if k == 1 {
+        return 6;
+    }
+    if k == 2 {
+        return 3;
+    }
+    2
+}
+
+// The soil heat, of the mean m and the earlier means: how many, k, and their sum, z. A change over 9k is 6/k times it over 54: one divisor for
+// every k.
 pub fn soil_heat(m: i64, k: i64, z: i64) -> i64
     requires { ⌜ InRange quantities.temperature m × InRange quantities.earlierCount k × InRange quantities.earlierSum z ⌝ }
     ensures { λ r. ⌜ (r ≡ sheet.soilHeat m k z) × InRange quantities.soilHeat r ⌝ }
@@ -83,13 +99,8 @@ pub fn soil_heat(m: i64, k: i64, z: i64) -> i64
         return 0;
     }
     let change = 1_885_000 * (k * m - z);
-    if k == 1 {
-        return numbers::toward_zero(change, 9);
-    }
-    if k == 2 {
-        return numbers::toward_zero(change, 18);
-    }
-    numbers::toward_zero(change, 27)
+    let factor = times(k);
+    numbers::toward_zero(factor * change, 54)
 }
 
 // H.
