@@ -12,7 +12,7 @@ pub fn toward_zero(a: i64, b: i64) -> i64
     a / b
 }
 
-// a / b down: every step that the sheet marks ÷ (down), of numbers not below zero. The unsigned division is the cheaper one.
+// a / b down, of numbers not below zero: steps that the sheet marks ÷ (down). The unsigned division is the cheaper one.
 pub fn quotient(a: i64, b: i64) -> i64
     requires { ⌜ (pos 0 ≤ℤ a) × (pos 0 <ℤ b) ⌝ }
     ensures { λ r. ⌜ r ≡ a ÷↓ b ⌝ }

@@ -23,9 +23,9 @@ pub fn cloud_factor(s: i64, q: i64) -> i64
 {
     let rho = ratio(s, q);
     if 1_000_000_000 * s > 7 * q {
-        return 1_126 * rho / 1_000 - 70_000_000;
+        return numbers::quotient(1_126 * rho, 1_000) - 70_000_000;
     }
-    1_017 * rho / 1_000 - 60_000_000
+    numbers::quotient(1_017 * rho, 1_000) - 60_000_000
 }
 
 // B, of the maximum and the minimum.
@@ -72,7 +72,7 @@ pub fn net_radiation(albedo: i64, s: i64, rb: i64) -> i64
     requires { ⌜ InRange quantities.albedo albedo × InRange quantities.radiation s × InRange quantities.backRadiation rb ⌝ }
     ensures { λ r. ⌜ (r ≡ sheet.Rn albedo s rb) × InRange quantities.netRadiation r ⌝ }
 {
-    (1_000_000_000 - albedo) * (41_868 * s) / 1_000_000_000 - rb
+    numbers::quotient((1_000_000_000 - albedo) * (41_868 * s), 1_000_000_000) - rb
 }
 
 // 6/k, of the number of earlier means k.

@@ -28,7 +28,6 @@ given c = c .before .pre .0 and c .before .pre .1 and c .before .pre .2 and none
 abbrev changes : MachineExpression
 changes = arg 0 *ᵐ (lit 1_885_000 *ᵐ (arg 2 *ᵐ arg 1 -ᵐ arg 3))
 
-
 returns : tie.Need-returns
 returns c = (soil-none (c .before .args .m) (c .before .args .z) (is-number (c .before .pre .1) (c .if1 .taken)), omega arith)
 
