@@ -1,15 +1,16 @@
 -- Expressions on `i64` values as data, so that one computed test shows that no step of an expression overflows, that divisors are above 0, and
 -- that the machine's value is what the expression means. `range e rs` is a range of e where the arguments are in the ranges rs; `safe e rs` tests
--- that each part fits an `i64`. The answers that a proof takes are `fits`, `divides`, `equal-in` and `called`. Assumes nothing.
+-- that each part fits an `i64`. The answers that a proof takes are `fits`, `divides`, `equal-in` and `called`, and of a call of `quotient`
+-- `quotient-asks` and `quotient-gives`. Assumes nothing.
 use mathlib.Core.Path.{_≡_, refl, sym, ap, ap₂, _∙_, subst}
 use mathlib.Core.Bool.{Bool, _&&_}
 use mathlib.Core.List.{List, [], _∷_}
-use Prim.Native.Nat.{ℕ, zero, suc, _<_}
+use Prim.Native.Nat.{ℕ, zero, suc, _<_, zero-le}
 use native.Mathlib.Nat.{lt-of-lt-of-le}
 use native.Mathlib.Omega.{arith}
-use lib.Dec.{T, ltb→lt}
+use lib.Dec.{T, ltb→lt, le→leb, lt→ltb}
 use lib.IntN.{ℤ, pos, negsuc, _+ℤ_, _-ℤ_, _*ℤ_}
-use lib.Signed.{quotZ}
+use lib.Signed.{quotZ, _≤ℤ_, _<ℤ_, leZ-yes, ltZ-yes}
 use mir.Syntax.{w16, w64}
 use mir.Val.{SFits, toZ, ofZ}
 use mir.Facts.{toZ-ofZ, sfits-widen}
@@ -17,7 +18,8 @@ use Rattle.numbers.specs.Whole.{_÷↓_, _÷0_, absℤ}
 use Rattle.numbers.specs.Ranges.{Range, from_to_, minus_to_, Bounds, InRange}
 use Rattle.numbers.proofs.RangeArithmetic.{both, sumRange, differenceRange, productRange, quotientRange, absoluteRange, above-zero, not-below-zero, fits-i64, fits-i16, inside, wider, range-fits, range-fits-i16, sum-in, difference-in, product-in, quotient-in, toward-zero-in, down-is, absolute-in}
 
--- an argument, one that is an `i16`, a literal, and the operations; `÷↓ᵐ` is the machine's division, `÷0ᵐ` and `absoluteᵐ` are calls
+-- an argument, one that is an `i16`, a literal, and the operations; `÷↓ᵐ` is the machine's division or a call of `quotient`, `÷0ᵐ` and
+-- `absoluteᵐ` are calls
 infixl 6 _+ᵐ_ _-ᵐ_
 infixl 7 _*ᵐ_ _÷↓ᵐ_ _÷0ᵐ_
 pub data MachineExpression : Type 0 where
@@ -140,10 +142,19 @@ holds-by : (e : MachineExpression) (rs : List Range) (zs : List ℤ) → T (fits
 holds-by e rs zs t p x =
     record { exact = x; bounds = p; fits = subst (SFits w64) (sym x) (range-fits (range e rs) (meaning e zs) t p) }
 
-positive : (s : Range) (y : ℤ) → T (above-zero s) → Bounds s y → 0 < ofZ w64 y
-positive (from c to d) (pos k) t q = lt-of-lt-of-le (ltb→lt 0 c t) (q .0)
-positive (from c to d) (negsuc k) t q = absurd q
-positive (minus c to d) y t q = absurd t
+not-below : (r : Range) (x : ℤ) → T (not-below-zero r) → Bounds r x → pos 0 ≤ℤ x
+not-below (from a to b) (pos n) t p = leZ-yes (le→leb 0 n zero-le)
+not-below (from a to b) (negsuc n) t p = absurd p
+not-below (minus a to b) x t p = absurd t
+
+above : (s : Range) (y : ℤ) → T (above-zero s) → Bounds s y → pos 0 <ℤ y
+above (from c to d) (pos k) t q = ltZ-yes (lt→ltb 0 k (lt-of-lt-of-le (ltb→lt 0 c t) (q .0)))
+above (from c to d) (negsuc k) t q = absurd q
+above (minus c to d) y t q = absurd t
+
+pub bits-above : (y : ℤ) → pos 0 <ℤ y → 0 < ofZ w64 y
+bits-above (pos k) h = ltb→lt 0 k (h .lt)
+bits-above (negsuc k) h = absurd (h .lt)
 
 -- what a division asks: its divisor is above 0, and its quotient fits
 abbrev pub Divides : MachineExpression → MachineExpression → List ℤ → Type 0
@@ -153,6 +164,14 @@ module _ {rs : List Range} {zs : List ℤ} (g : Given rs zs) where
   -- an operation of two parts
   parts : (a b : MachineExpression) (t : Bool) → T (t && (safe a rs && safe b rs)) → T t × (T (safe a rs) × T (safe b rs))
   parts a b t h = let s = both t (safe a rs && safe b rs) h in (s .0, both (safe a rs) (safe b rs) (s .1))
+
+  -- a division: its quotient fits, its divisor is above 0, its dividend not below 0, and its two parts
+  division : (a b : MachineExpression) → T (safe (a ÷↓ᵐ b) rs) →
+      (T (fits-i64 (range (a ÷↓ᵐ b) rs)) × (T (above-zero (range b rs)) × T (not-below-zero (range a rs)))) × (T (safe a rs) × T (safe b rs))
+  division a b t =
+      let s = parts a b (fits-i64 (range (a ÷↓ᵐ b) rs) && (above-zero (range b rs) && not-below-zero (range a rs))) t in
+      let u = both (fits-i64 (range (a ÷↓ᵐ b) rs)) (above-zero (range b rs) && not-below-zero (range a rs)) (s .0) in
+      ((u .0, both (above-zero (range b rs)) (not-below-zero (range a rs)) (u .1)), s .1)
 
   pub holds : (e : MachineExpression) → T (safe e rs) → Holds e rs zs
   unfolding parts
@@ -181,13 +200,12 @@ module _ {rs : List Range} {zs : List ℤ} (g : Given rs zs) where
       holds-by (a *ᵐ b) rs zs (s .0) (product-in (range a rs) (range b rs) (meaning a zs) (meaning b zs) (p .bounds) (q .bounds))
       (ap₂ _*ℤ_ (value-is a rs zs p) (value-is b rs zs q))
   holds (a ÷↓ᵐ b) t =
-      let s = parts a b (fits-i64 (range (a ÷↓ᵐ b) rs) && (above-zero (range b rs) && not-below-zero (range a rs))) t in
-      let u = both (fits-i64 (range (a ÷↓ᵐ b) rs)) (above-zero (range b rs) && not-below-zero (range a rs)) (s .0) in
-      let v = both (above-zero (range b rs)) (not-below-zero (range a rs)) (u .1) in
+      let s = division a b t in
+      let v = s .0 .1 in
       let p = holds a (s .1 .0) in
       let q = holds b (s .1 .1) in
       let e = down-is (range a rs) (range b rs) (meaning a zs) (meaning b zs) (v .1) (v .0) (p .bounds) (q .bounds) in
-      holds-by (a ÷↓ᵐ b) rs zs (u .0)
+      holds-by (a ÷↓ᵐ b) rs zs (s .0 .0)
       (subst (Bounds (range (a ÷↓ᵐ b) rs)) e (quotient-in (range a rs) (range b rs) (meaning a zs) (meaning b zs) (v .0) (p .bounds) (q .bounds)))
       (ap₂ quotZ (value-is a rs zs p) (value-is b rs zs q) ∙ e)
   holds (a ÷0ᵐ b) t =
@@ -209,15 +227,26 @@ module _ {rs : List Range} {zs : List ℤ} (g : Given rs zs) where
 
   -- a division may be done
   pub divides : (a b : MachineExpression) → T (safe (a ÷↓ᵐ b) rs) → Divides a b zs
-  unfolding parts
   divides a b t =
-      let s = parts a b (fits-i64 (range (a ÷↓ᵐ b) rs) && (above-zero (range b rs) && not-below-zero (range a rs))) t in
-      let u = both (fits-i64 (range (a ÷↓ᵐ b) rs)) (above-zero (range b rs) && not-below-zero (range a rs)) (s .0) in
-      let q = holds b (s .1 .1) in (
-        subst (λ (y : ℤ). 0 < ofZ w64 y) (sym (q .exact))
-            (positive (range b rs) (meaning b zs) (both (above-zero (range b rs)) (not-below-zero (range a rs)) (u .1) .0) (q .bounds)),
-        fits (a ÷↓ᵐ b) t,
-      )
+      let s = division a b t in
+      let q = holds b (s .1 .1) in
+      (rw (q .exact) (bits-above (meaning b zs) (above (range b rs) (meaning b zs) (s .0 .1 .0) (q .bounds))), fits (a ÷↓ᵐ b) t)
+
+  -- `quotient` may be called, and what it gives is the machine's division
+  pub quotient-asks : (a b : MachineExpression) → T (safe (a ÷↓ᵐ b) rs) → (pos 0 ≤ℤ machine a zs) × (pos 0 <ℤ machine b zs)
+  quotient-asks a b t =
+      let s = division a b t in
+      let p = holds a (s .1 .0) in
+      let q = holds b (s .1 .1) in
+      rw (value-is a rs zs p, value-is b rs zs q)
+      (not-below (range a rs) (meaning a zs) (s .0 .1 .1) (p .bounds), above (range b rs) (meaning b zs) (s .0 .1 .0) (q .bounds))
+
+  pub quotient-gives : (a b : MachineExpression) {x : ℤ} → x ≡ machine a zs ÷↓ machine b zs → T (safe (a ÷↓ᵐ b) rs) → x ≡ result (a ÷↓ᵐ b) zs
+  quotient-gives a b e t =
+      let s = division a b t in
+      e
+      ∙ ap₂ _÷↓_ (value-is a rs zs (holds a (s .1 .0))) (value-is b rs zs (holds b (s .1 .1)))
+      ∙ sym (holds (a ÷↓ᵐ b) t .exact)
 
   -- the machine's value is the meaning
   pub equal : (e : MachineExpression) → T (safe e rs) → machine e zs ≡ meaning e zs

@@ -1,8 +1,8 @@
-// Whole-number code that the step sheet shares: the quotient that the sheet marks ÷0.
+// Whole-number code that the step sheet shares: its two quotients.
 ghost use mathlib.Core.Path.{_≡_};
 ghost use lib.IntN.{pos};
-ghost use lib.Signed.{_<ℤ_};
-ghost use Rattle.numbers.specs.Whole.{_÷0_};
+ghost use lib.Signed.{_≤ℤ_, _<ℤ_};
+ghost use Rattle.numbers.specs.Whole.{_÷↓_, _÷0_};
 
 // a / b with the fraction dropped toward zero: every step that the sheet marks ÷0.
 pub fn toward_zero(a: i64, b: i64) -> i64
@@ -10,4 +10,12 @@ pub fn toward_zero(a: i64, b: i64) -> i64
     ensures { λ r. ⌜ r ≡ a ÷0 b ⌝ }
 {
     a / b
+}
+
+// a / b down, of numbers not below zero: steps that the sheet marks ÷ (down). The unsigned division is the cheaper one.
+pub fn quotient(a: i64, b: i64) -> i64
+    requires { ⌜ (pos 0 ≤ℤ a) × (pos 0 <ℤ b) ⌝ }
+    ensures { λ r. ⌜ r ≡ a ÷↓ b ⌝ }
+{
+    ((a as u64) / (b as u64)) as i64
 }

@@ -26,7 +26,7 @@ pub fn rounded(a: i64, heat: i64) -> i64
         return 0;
     }
     let whole = 100 * heat;
-    (2 * (23_622 * a) + whole) / (2 * whole)
+    numbers::quotient(2 * (23_622 * a) + whole, 2 * whole)
 }
 
 // Refusal 11.

@@ -1,7 +1,8 @@
 // The heat that is there to use: the radiation that comes in, what goes out, and what the soil takes.
 ghost use mathlib.Core.Bool.{false};
 ghost use mathlib.Core.Path.{_≡_};
-ghost use Rattle.numbers.specs.Ranges.{InRange};
+ghost use lib.IntN.{pos, _*ℤ_};
+ghost use Rattle.numbers.specs.Ranges.{InRange, from_to_};
 ghost use Rattle.sheet.specs.Parts as parts;
 ghost use Rattle.sheet.specs.Quantities as quantities;
 ghost use Rattle.sheet.specs.StepSheet as sheet;
@@ -11,7 +12,7 @@ pub fn ratio(s: i64, q: i64) -> i64
     requires { ⌜ InRange quantities.radiation s × InRange quantities.clearDay q × (sheet.aboveTwiceClear s q ≡ false) ⌝ }
     ensures { λ r. ⌜ (r ≡ sheet.ρ s q) × InRange quantities.ratio r ⌝ }
 {
-    100_000_000_000_000 * s / (q / 1_000)
+    numbers::quotient(100_000_000_000_000 * s, q / 1_000)
 }
 
 // K. The choice is by the exact numbers and not by the ratio, whose fraction is dropped.
@@ -21,9 +22,9 @@ pub fn cloud_factor(s: i64, q: i64) -> i64
 {
     let rho = ratio(s, q);
     if 1_000_000_000 * s > 7 * q {
-        return 1_126 * rho / 1_000 - 70_000_000;
+        return numbers::quotient(1_126 * rho, 1_000) - 70_000_000;
     }
-    1_017 * rho / 1_000 - 60_000_000
+    numbers::quotient(1_017 * rho, 1_000) - 60_000_000
 }
 
 // B, of the maximum and the minimum.
@@ -60,10 +61,25 @@ pub fn net_radiation(albedo: i64, s: i64, rb: i64) -> i64
     requires { ⌜ InRange quantities.albedo albedo × InRange quantities.radiation s × InRange quantities.backRadiation rb ⌝ }
     ensures { λ r. ⌜ (r ≡ sheet.Rn albedo s rb) × InRange quantities.netRadiation r ⌝ }
 {
-    (1_000_000_000 - albedo) * (41_868 * s) / 1_000_000_000 - rb
+    numbers::quotient((1_000_000_000 - albedo) * (41_868 * s), 1_000_000_000) - rb
 }
 
-// The soil heat, of the mean m and the earlier means: how many, k, and their sum, z.
+// 6/k, of the number of earlier means k.
+fn times(k: i64) -> i64
+    requires { ⌜ InRange (from 1 to 3) k ⌝ }
+    ensures { λ r. ⌜ (r *ℤ k ≡ pos 6) × InRange (from 2 to 6) r ⌝ }
+{
+    if k == 1 {
+        return 6;
+    }
+    if k == 2 {
+        return 3;
+    }
+    2
+}
+
+// The soil heat, of the mean m and the earlier means: how many, k, and their sum, z. A change over 9k is 6/k times it over 54: one divisor for
+// every k.
 pub fn soil_heat(m: i64, k: i64, z: i64) -> i64
     requires { ⌜ InRange quantities.temperature m × InRange quantities.earlierCount k × InRange quantities.earlierSum z ⌝ }
     ensures { λ r. ⌜ (r ≡ sheet.soilHeat m k z) × InRange quantities.soilHeat r ⌝ }
@@ -72,13 +88,8 @@ pub fn soil_heat(m: i64, k: i64, z: i64) -> i64
         return 0;
     }
     let change = 1_885_000 * (k * m - z);
-    if k == 1 {
-        return numbers::toward_zero(change, 9);
-    }
-    if k == 2 {
-        return numbers::toward_zero(change, 18);
-    }
-    numbers::toward_zero(change, 27)
+    let factor = times(k);
+    numbers::toward_zero(factor * change, 54)
 }
 
 // H.

@@ -13,7 +13,7 @@ pub fn slope(m: i64) -> i64
     let v2 = u * u / 10;
     let v4 = v2 * v2 / 1_000_000_000;
     let v6 = v4 * v2 / 1_000_000_000;
-    let v7 = v6 * u / 100_000;
+    let v7 = numbers::quotient(v6 * u, 100_000);
     v7 / 5 - 116_000
 }
 

@@ -9,7 +9,7 @@ pub fn psychrometric(p: i64, heat: i64) -> i64
     requires { ⌜ InRange quantities.pressure p × InRange quantities.latentHeat heat ⌝ }
     ensures { λ r. ⌜ (r ≡ sheet.g p heat) × InRange quantities.psychrometric r ⌝ }
 {
-    603_000_000_000 * p / (622 * heat)
+    numbers::quotient(603_000_000_000 * p, 622 * heat)
 }
 
 // w1, of the slope and g. w2 is what it lacks of 10⁹.
@@ -17,5 +17,5 @@ pub fn weight(d: i64, g: i64) -> i64
     requires { ⌜ InRange quantities.slope d × InRange quantities.psychrometric g ⌝ }
     ensures { λ r. ⌜ (r ≡ sheet.w1 d g) × InRange quantities.weight r ⌝ }
 {
-    1_000_000_000 * d / (d + g)
+    numbers::quotient(1_000_000_000 * d, d + g)
 }

@@ -20,7 +20,7 @@ pub fn wind_factor(aw: i64, bw: i64, w: i64) -> i64
     requires { ⌜ InRange quantities.aw aw × InRange quantities.bw bw × InRange quantities.countedWind w ⌝ }
     ensures { λ r. ⌜ (r ≡ sheet.Wf aw bw w) × InRange quantities.windFactor r ⌝ }
 {
-    aw + bw * (16_093 * w) / 100_000
+    aw + numbers::quotient(bw * (16_093 * w), 100_000)
 }
 
 // V, of the vapour pressures at the maximum, at the minimum and at the dew point.
@@ -28,7 +28,7 @@ pub fn deficit(maximum: i64, minimum: i64, ea: i64) -> i64
     requires { ⌜ InRange quantities.vapourPressure maximum × InRange quantities.vapourPressure minimum × InRange quantities.vapourPressure ea ⌝ }
     ensures { λ r. ⌜ (r ≡ sheet.«V» maximum minimum ea) × InRange quantities.deficit r ⌝ }
 {
-    (maximum + minimum) / 2 - ea
+    numbers::quotient(maximum + minimum, 2) - ea
 }
 
 // T.

@@ -1,12 +1,12 @@
 -- `numbers::toward_zero` meets its contract: a quotient by a number above 0 is no larger than the dividend, so it fits. Assumes nothing.
-use Prim.Native.Nat.{ℕ, zero, suc, _/_, _≤_, _<_, zero-le}
+use Prim.Native.Nat.{ℕ, zero, suc, _/_, _≤_, zero-le}
 use native.Mathlib.Nat.{div-le-self, le-of-suc-le-suc, lt-of-le-of-lt}
-use lib.Dec.{ltb→lt}
 use lib.IntN.{ℤ, pos, negsuc, negℤ}
 use lib.Signed.{mag, quotZ, _<ℤ_}
 use mir.Syntax.{w64}
-use mir.Val.{SFits, ofZ}
+use mir.Val.{SFits}
 use mir.Facts.{toZ-ofZ}
+use Rattle.numbers.proofs.Reflection.{bits-above}
 use Rattle.numbers.proofs.toward_zero.Statement.{statement}
 use Rattle.numbers.proofs.toward_zero.Tie as tie
 
@@ -22,10 +22,6 @@ mag-quotient (negsuc a) (negsuc k) h = absurd (h .lt)
 
 quotient-fits : (a b : ℤ) → pos 0 <ℤ b → SFits w64 a → SFits w64 (quotZ a b)
 quotient-fits a b h f = record { sfits = lt-of-le-of-lt (mag-quotient a b h) (f .sfits) }
-
-bits-above : (b : ℤ) → pos 0 <ℤ b → 0 < ofZ w64 b
-bits-above (pos k) h = ltb→lt 0 k (h .lt)
-bits-above (negsuc k) h = absurd (h .lt)
 
 div-result : tie.Need-div-result
 div-result c =

@@ -7,7 +7,7 @@ use lib.IntN.{ℤ, pos}
 use lib.Signed.{leZ}
 use mir.Facts.{toZ-ofZ}
 use Rattle.numbers.specs.Ranges.{from_to_}
-use Rattle.numbers.proofs.Reflection.{MachineExpression, arg, lit, _+ᵐ_, _*ᵐ_, _÷↓ᵐ_, Given, none, _and_, fits, divides, equal-in, meaning}
+use Rattle.numbers.proofs.Reflection.{MachineExpression, arg, lit, _+ᵐ_, _*ᵐ_, _÷↓ᵐ_, Given, none, _and_, fits, equal-in, meaning, quotient-asks, quotient-gives}
 use Rattle.sheet.specs.Quantities as quantities
 use Rattle.sheet.specs.StepSheet.{Figure}
 use Rattle.sheet.proofs.Choices.{taken, left, positive-in}
@@ -40,9 +40,11 @@ returns c =
 returns-2 : tie.Need-returns-2
 unfolding Figure
 returns-2 c =
-    let b = c .before in
-    let h = equal-in (given c) nearest quantities.figure tt in
-    (h .0 ∙ left leZ (toZ-ofZ (b .fits .a)) refl (pos 0) (meaning nearest (zs b)) (c .if1 .left), h .1)
+    let e = c .before in
+    let b = e .before in
+    let h = equal-in (given e) nearest quantities.figure tt in
+    rw (quotient-gives (given e) above (lit 2 *ᵐ whole) (c .quotient .ensures) tt)
+    (h .0 ∙ left leZ (toZ-ofZ (b .fits .a)) refl (pos 0) (meaning nearest (zs b)) (e .if1 .left), h .1)
 
 pub rounded-spec : {M : Type 1} → statement M
 rounded-spec =
@@ -54,5 +56,5 @@ rounded-spec =
     (λ c. fits (given c) (lit 2 *ᵐ (lit 23_622 *ᵐ arg 0)) tt)
     (λ c. fits (given c) above tt)
     (λ c. fits (given c) (lit 2 *ᵐ whole) tt)
-    (λ c. divides (given c) above (lit 2 *ᵐ whole) tt)
+    (λ c κs. quotient-asks (given c) above (lit 2 *ᵐ whole) tt)
     returns-2)

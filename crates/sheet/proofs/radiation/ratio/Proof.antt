@@ -1,7 +1,7 @@
 -- `sheet::radiation::ratio` meets its contract: each step, as an expression, is safe in the ranges required. Assumes nothing.
 use mathlib.Core.Path.{_≡_}
 use mathlib.Core.List.{[], _∷_}
-use Rattle.numbers.proofs.Reflection.{MachineExpression, arg, lit, _*ᵐ_, _÷↓ᵐ_, Given, none, _and_, fits, divides, machine, equal}
+use Rattle.numbers.proofs.Reflection.{MachineExpression, arg, lit, _*ᵐ_, _÷↓ᵐ_, Given, none, _and_, fits, divides, machine, equal, quotient-asks, quotient-gives}
 use Rattle.sheet.specs.Quantities as quantities
 use Rattle.sheet.specs.StepSheet.{ρ}
 use Rattle.sheet.proofs.Laws.{ratio-in}
@@ -23,9 +23,12 @@ unfolding ρ
 ratio-is c = equal (given c) (above ÷↓ᵐ below) tt
 
 returns : tie.Need-returns
-returns c = said (ratio-is c) (ratio-in (c .args .s) (c .args .q) (c .pre .0) (c .pre .1) (c .pre .2))
+returns c =
+    let b = c .before in
+    rw (quotient-gives (given b) above below (c .quotient .ensures) tt)
+    (said (ratio-is b) (ratio-in (b .args .s) (b .args .q) (b .pre .0) (b .pre .1) (b .pre .2)))
 
 pub ratio-spec : {M : Type 1} → statement M
 ratio-spec =
     tie.close
-    (tie.spec (λ c. fits (given c) above tt) (λ c. divides (given c) (arg 1) (lit 1_000) tt) (λ c. divides (given c) above below tt) returns)
+    (tie.spec (λ c. fits (given c) above tt) (λ c. divides (given c) (arg 1) (lit 1_000) tt) (λ c κs. quotient-asks (given c) above below tt) returns)

@@ -1,6 +1,7 @@
 -- `sheet::temperature::slope` meets its contract: each step, as an expression, is safe in the ranges required. Assumes nothing.
+use mathlib.Core.Path.{_≡_}
 use mathlib.Core.List.{[], _∷_}
-use Rattle.numbers.proofs.Reflection.{MachineExpression, arg, lit, _-ᵐ_, _*ᵐ_, _÷↓ᵐ_, Given, none, _and_, fits, divides, equal-in}
+use Rattle.numbers.proofs.Reflection.{MachineExpression, arg, lit, _-ᵐ_, _*ᵐ_, _÷↓ᵐ_, Given, none, _and_, result, fits, divides, equal-in, quotient-asks, quotient-gives}
 use Rattle.sheet.specs.Quantities as quantities
 use Rattle.sheet.specs.StepSheet.{U, V2, V4, V6, V7, D}
 use Rattle.sheet.proofs.Powers.{u, v2, v4, v6, v7}
@@ -16,9 +17,12 @@ d = (v7 m ÷↓ᵐ lit 5) -ᵐ lit 116_000
 given : (c : tie.Start) → Given (quantities.temperature ∷ []) (c .args .m ∷ [])
 given c = c .pre and none
 
+gives : (c : tie.After-quotient) → c .quotient .result ≡ result (v7 m) (c .before .args .m ∷ [])
+gives c = quotient-gives (given (c .before)) (v6 m *ᵐ u m) (lit 100_000) (c .quotient .ensures) tt
+
 returns : tie.Need-returns
 unfolding U V2 V4 V6 V7 D
-returns c = equal-in (given c) d quantities.slope tt
+returns c = rw (gives c) (equal-in (given (c .before)) d quantities.slope tt)
 
 pub slope-spec : {M : Type 1} → statement M
 slope-spec =
@@ -33,7 +37,7 @@ slope-spec =
     (λ c. fits (given c) (v4 m *ᵐ v2 m) tt)
     (λ c. divides (given c) (v4 m *ᵐ v2 m) (lit 1_000_000_000) tt)
     (λ c. fits (given c) (v6 m *ᵐ u m) tt)
-    (λ c. divides (given c) (v6 m *ᵐ u m) (lit 100_000) tt)
-    (λ c. divides (given c) (v7 m) (lit 5) tt)
-    (λ c. fits (given c) d tt)
+    (λ c κs. quotient-asks (given c) (v6 m *ᵐ u m) (lit 100_000) tt)
+    (λ c. rw (gives c) (divides (given (c .before)) (v7 m) (lit 5) tt))
+    (λ c. rw (gives c) (fits (given (c .before)) d tt))
     returns)

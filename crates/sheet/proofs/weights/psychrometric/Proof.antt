@@ -1,6 +1,6 @@
 -- `sheet::weights::psychrometric` meets its contract: each step, as an expression, is safe in the ranges required. Assumes nothing.
 use mathlib.Core.List.{[], _∷_}
-use Rattle.numbers.proofs.Reflection.{MachineExpression, arg, lit, _*ᵐ_, _÷↓ᵐ_, Given, none, _and_, fits, divides, equal-in}
+use Rattle.numbers.proofs.Reflection.{MachineExpression, arg, lit, _*ᵐ_, _÷↓ᵐ_, Given, none, _and_, fits, equal-in, quotient-asks, quotient-gives}
 use Rattle.sheet.specs.Quantities as quantities
 use Rattle.sheet.specs.StepSheet.{g}
 use Rattle.sheet.proofs.weights.psychrometric.Statement.{statement}
@@ -17,8 +17,10 @@ given c = c .pre .0 and c .pre .1 and none
 
 returns : tie.Need-returns
 unfolding g
-returns c = equal-in (given c) (above ÷↓ᵐ below) quantities.psychrometric tt
+returns c =
+    let b = c .before in
+    rw (quotient-gives (given b) above below (c .quotient .ensures) tt) (equal-in (given b) (above ÷↓ᵐ below) quantities.psychrometric tt)
 
 pub psychrometric-spec : {M : Type 1} → statement M
 psychrometric-spec =
-    tie.close (tie.spec (λ c. fits (given c) above tt) (λ c. fits (given c) below tt) (λ c. divides (given c) above below tt) returns)
+    tie.close (tie.spec (λ c. fits (given c) above tt) (λ c. fits (given c) below tt) (λ c κs. quotient-asks (given c) above below tt) returns)
