@@ -24,7 +24,7 @@ given : (c : tie.Else1) →
     Given (quantities.temperature ∷ quantities.earlierCount ∷ quantities.earlierSum ∷ []) (c .before .args .m ∷ c .before .args .k ∷ c .before .args .z ∷ [])
 given c = c .before .pre .0 and c .before .pre .1 and c .before .pre .2 and none
 
--- the same with the factor before them
+-- the change times the factor, which stands before the three
 abbrev changes : MachineExpression
 changes = arg 0 *ᵐ (lit 1_885_000 *ᵐ (arg 2 *ᵐ arg 1 -ᵐ arg 3))
 
