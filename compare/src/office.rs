@@ -39,40 +39,86 @@ fn halves(returned: u64) -> (u32, u32) {
     ((returned >> 32) as u32, returned as u32)
 }
 
+/// A day as the library takes it: the numbers of its fields.
+#[derive(Clone, Copy)]
+pub struct Handed {
+    code: [u8; 4],
+    c: [i16; 5],
+    clear_minimum: u16,
+    elevation: u16,
+    year: u16,
+    d: u16,
+    readings: [i16; 6],
+    has: [u8; 3],
+    means: [i16; 3],
+}
+
+impl Handed {
+    pub fn new(station: &Station, day: &Day, earlier: &Earlier) -> Self {
+        Handed {
+            code: station.code,
+            c: station.c,
+            clear_minimum: station.minimum,
+            elevation: station.elevation,
+            year: day.year,
+            d: day.d,
+            readings: [
+                day.maximum,
+                day.minimum,
+                day.mean,
+                day.dewpoint,
+                day.radiation,
+                day.wind,
+            ],
+            has: earlier.map(|mean| mean.is_some().into()),
+            means: earlier.map(|mean| mean.unwrap_or(0)),
+        }
+    }
+
+    /// The verdict in one number, as the library returns it.
+    #[inline]
+    pub fn judged(&self) -> u64 {
+        let [first, second, third, fourth] = self.code;
+        let [c1, c2, c3, c4, c5] = self.c;
+        let [maximum, minimum, mean, dewpoint, radiation, wind] = self.readings;
+        let [has_one, has_two, has_three] = self.has;
+        let [one, two, three] = self.means;
+        unsafe {
+            fuortwem_judge(
+                first,
+                second,
+                third,
+                fourth,
+                c1,
+                c2,
+                c3,
+                c4,
+                c5,
+                self.clear_minimum,
+                self.elevation,
+                self.year,
+                self.d,
+                maximum,
+                minimum,
+                mean,
+                dewpoint,
+                radiation,
+                wind,
+                has_one,
+                one,
+                has_two,
+                two,
+                has_three,
+                three,
+            )
+        }
+    }
+}
+
 /// A day handed in alone.
 #[inline]
 pub fn judge(station: &Station, day: &Day, earlier: &Earlier) -> Verdict {
-    let [one, two, three] = *earlier;
-    let returned = unsafe {
-        fuortwem_judge(
-            station.code[0],
-            station.code[1],
-            station.code[2],
-            station.code[3],
-            station.c[0],
-            station.c[1],
-            station.c[2],
-            station.c[3],
-            station.c[4],
-            station.minimum,
-            station.elevation,
-            day.year,
-            day.d,
-            day.maximum,
-            day.minimum,
-            day.mean,
-            day.dewpoint,
-            day.radiation,
-            day.wind,
-            one.is_some().into(),
-            one.unwrap_or(0),
-            two.is_some().into(),
-            two.unwrap_or(0),
-            three.is_some().into(),
-            three.unwrap_or(0),
-        )
-    };
-    match halves(returned) {
+    match halves(Handed::new(station, day, earlier).judged()) {
         (0, figure) => Verdict::Figure(figure),
         (number, _) => Verdict::Refused(number),
     }

@@ -3,7 +3,8 @@
 //! answer that is timed is checked first; a wrong one is the only reason for a failing exit status.
 use compare::days::{self, Case, Random};
 use compare::second::{calendar, log, sheet};
-use compare::{office, plain, Day, Earlier, Outcome, Station, Verdict};
+use compare::office::{self, Handed};
+use compare::{plain, Day, Earlier, Outcome, Station, Verdict};
 use std::fmt;
 use std::hint::black_box;
 use std::process::ExitCode;
@@ -264,9 +265,10 @@ fn alone(random: &mut Random, station: Station) -> Case {
     }
 }
 
-/// A day as it is handed in, and the same day in the routine's units.
+/// A day, and the same day as the library and as the routine take it: nothing is converted while the time runs.
 struct Timed {
     case: Case,
+    handed: Handed,
     double: Readings<f64>,
     #[cfg(has_fortran)]
     single: Readings<f32>,
@@ -275,6 +277,7 @@ struct Timed {
 impl Timed {
     fn new(case: Case) -> Self {
         Timed {
+            handed: handed(&case),
             double: Readings::new(&case, |value| value),
             #[cfg(has_fortran)]
             single: Readings::new(&case, |value| value as f32),
@@ -286,7 +289,7 @@ impl Timed {
 /// A log of one station and consecutive days, and the same days as they would be handed in alone.
 struct Log {
     bytes: Vec<u8>,
-    cases: Vec<Case>,
+    handed: Vec<Handed>,
     expected: Vec<u8>,
 }
 
@@ -294,7 +297,7 @@ impl Log {
     /// As many whole records as fit.
     fn of_size(size: usize, station: Station, random: &mut Random) -> Self {
         let mut bytes = days::station_record(&station).to_vec();
-        let mut cases = Vec::new();
+        let mut handed = Vec::new();
         let mut earlier: Earlier = [None; 3];
         for (year, d) in (1_950..=2_099).flat_map(|year| (1..=366).map(move |d| (year, d))) {
             if calendar::number(year, d).is_none() {
@@ -306,17 +309,13 @@ impl Log {
                 break;
             }
             bytes.extend(record);
-            cases.push(Case {
-                station,
-                day,
-                earlier,
-            });
+            handed.push(Handed::new(&station, &day, &earlier));
             earlier = [Some(day.mean), earlier[0], earlier[1]];
         }
         let expected = log::answer_bytes(&bytes).expect("a log without a fault");
         Log {
             bytes,
-            cases,
+            handed,
             expected,
         }
     }
@@ -331,14 +330,14 @@ impl Log {
     }
 }
 
-fn by_office(
+fn handed(
     Case {
         station,
         day,
         earlier,
     }: &Case,
-) -> Verdict {
-    office::judge(station, day, earlier)
+) -> Handed {
+    Handed::new(station, day, earlier)
 }
 
 fn by_plain(
@@ -354,7 +353,8 @@ fn by_plain(
 // ---------------------------------------------------------------- answers first
 
 fn agreed(case: &Case) -> Result<Verdict, String> {
-    let (office, plain) = (by_office(case), by_plain(case));
+    let office = office::judge(&case.station, &case.day, &case.earlier);
+    let plain = by_plain(case);
     if office == plain {
         return Ok(plain);
     }
@@ -472,7 +472,7 @@ fn measure_days(timed: &[Timed]) -> Vec<Ratio> {
         "the routine in Fortran, single precision",
     ];
     let times = best([
-        &mut || each(timed, |day| by_office(&day.case)),
+        &mut || each(timed, |day| day.handed.judged()),
         &mut || each(timed, |day| by_plain(&day.case)),
         &mut || each(timed, |day| day.double.inches()),
         #[cfg(has_fortran)]
@@ -527,7 +527,7 @@ fn measure_logs(logs: &[Log]) -> Vec<Ratio> {
                 black_box(&mut cleared).fill(0);
                 read(black_box(&mut cleared));
             },
-            &mut || each(&log.cases, by_office),
+            &mut || each(&log.handed, Handed::judged),
             &mut || {
                 let bytes = black_box(&log.bytes).iter();
                 black_box(bytes.map(|&byte| u64::from(byte)).sum::<u64>());
@@ -539,7 +539,7 @@ fn measure_logs(logs: &[Log]) -> Vec<Ratio> {
                 "{name:<40}{kibibytes:>8}{:>12.2}{:>10.1}{:>12.0}",
                 time / 1e3,
                 a_second(log.bytes.len()) / 1e6,
-                a_second(log.cases.len()),
+                a_second(log.handed.len()),
             );
         }
         let [not_cleared, _, judged, _] = times;
