@@ -85,7 +85,7 @@ pub fn figure(x: Readings, t: Entries, earlier: Earlier, q: i64) -> i64
     requires { ⌜ ReadingsInRange x × EntriesInRange t × EarlierInRange earlier × ClearDayAccepted x q ⌝ }
     ensures { λ r. ⌜ (r ≡ sheet.figure x t earlier q) × InRange quantities.figure r ⌝ }
 {
-    let h = heat(x, t, earlier, q);
     let dry = drying(x, t);
+    let h = heat(x, t, earlier, q);
     weighed(x.mean, t.p, h, dry)
 }

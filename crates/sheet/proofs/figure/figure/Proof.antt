@@ -10,9 +10,9 @@ use Rattle.sheet.proofs.figure.figure.Tie as tie
 returns : tie.Need-returns
 unfolding figure
 returns c =
-    let dry = c .before .before .before in
-    let warm = dry .before in
-    let s = warm .before in
+    let warm = c .before .before .before in
+    let dry = warm .before in
+    let s = dry .before in
     let m = read (s .pre .0 .mean) tt in
     let p = read (s .pre .1 .p) tt in
     let h = given-back (warm .heat .ensures) tt ∙ ap (heat _ _ _) (read (s .pre .3 .range) tt) in
