@@ -9,7 +9,7 @@ use lib.IntN.{ℤ, pos, negsuc, negℤ, _+ℤ_, _-ℤ_, _*ℤ_, subℕ, +ℤ-com
 use lib.Signed.{quotZ}
 use mir.Syntax.{w16, w64}
 use mir.Val.{SFits}
-use Rattle.numbers.specs.Whole.{_÷↓_, _÷0_, absℤ}
+use Rattle.numbers.specs.Whole.{_÷↓_, _÷0_}
 use Rattle.numbers.specs.Ranges.{Range, from_to_, minus_to_, Bounds}
 
 pub both : (s t : Bool) → T (s && t) → T s × T t
@@ -45,10 +45,6 @@ abbrev pub quotientRange : Range → Range → Range
 quotientRange (from a to b) (from c to d) = from (a / d) to (b / c)
 quotientRange (minus a to b) (from c to d) = minus (a / c) to (b / c)
 quotientRange r (minus c to d) = r
-
-abbrev pub absoluteRange : Range → Range
-absoluteRange (from a to b) = from a to b
-absoluteRange (minus a to b) = from 0 to max a b
 
 -- ---- tests of a range
 
@@ -210,11 +206,3 @@ down-is (from a to b) (from c to d) (pos m) (negsuc k) t u p q = absurd q
 down-is (from a to b) (from c to d) (negsuc m) y t u p q = absurd p
 down-is (from a to b) (minus c to d) x y t u p q = absurd u
 down-is (minus a to b) s x y t u p q = absurd t
-
--- ---- the absolute value
-
-pub absolute-in : (r : Range) (x : ℤ) → Bounds r x → Bounds (absoluteRange r) (absℤ x)
-absolute-in (from a to b) (pos n) p = p
-absolute-in (from a to b) (negsuc n) p = absurd p
-absolute-in (minus a to b) (pos n) p = (zero-le, le-trans p (le-max-right a b))
-absolute-in (minus a to b) (negsuc n) p = (zero-le, le-trans p (le-max-left a b))

@@ -14,12 +14,12 @@ use lib.Signed.{quotZ, _≤ℤ_, _<ℤ_, leZ-yes, ltZ-yes}
 use mir.Syntax.{w16, w64}
 use mir.Val.{SFits, toZ, ofZ}
 use mir.Facts.{toZ-ofZ, sfits-widen}
-use Rattle.numbers.specs.Whole.{_÷↓_, _÷0_, absℤ}
+use Rattle.numbers.specs.Whole.{_÷↓_, _÷0_}
 use Rattle.numbers.specs.Ranges.{Range, from_to_, minus_to_, Bounds, InRange}
-use Rattle.numbers.proofs.RangeArithmetic.{both, sumRange, differenceRange, productRange, quotientRange, absoluteRange, above-zero, not-below-zero, fits-i64, fits-i16, inside, wider, range-fits, range-fits-i16, sum-in, difference-in, product-in, quotient-in, toward-zero-in, down-is, absolute-in}
+use Rattle.numbers.proofs.RangeArithmetic.{both, sumRange, differenceRange, productRange, quotientRange, above-zero, not-below-zero, fits-i64, fits-i16, inside, wider, range-fits, range-fits-i16, sum-in, difference-in, product-in, quotient-in, toward-zero-in, down-is}
 
--- an argument, one that is an `i16`, a literal, and the operations; `÷↓ᵐ` is the machine's division or a call of `quotient`, `÷0ᵐ` and
--- `absoluteᵐ` are calls
+-- an argument, one that is an `i16`, a literal, and the operations; `÷↓ᵐ` is the machine's division or a call of `quotient`, `÷0ᵐ` a
+-- call of `toward_zero`
 infixl 6 _+ᵐ_ _-ᵐ_
 infixl 7 _*ᵐ_ _÷↓ᵐ_ _÷0ᵐ_
 pub data MachineExpression : Type 0 where
@@ -31,7 +31,6 @@ pub data MachineExpression : Type 0 where
   _*ᵐ_ : MachineExpression → MachineExpression → MachineExpression
   _÷↓ᵐ_ : MachineExpression → MachineExpression → MachineExpression
   _÷0ᵐ_ : MachineExpression → MachineExpression → MachineExpression
-  absoluteᵐ : MachineExpression → MachineExpression
 
 abbrev pub valueAt : List ℤ → ℕ → ℤ
 valueAt [] i = pos 0
@@ -68,7 +67,6 @@ machine (a -ᵐ b) zs = readBack (machine a zs -ℤ machine b zs)
 machine (a *ᵐ b) zs = readBack (machine a zs *ℤ machine b zs)
 machine (a ÷↓ᵐ b) zs = readBack (quotZ (machine a zs) (machine b zs))
 machine (a ÷0ᵐ b) zs = readBack (machine a zs ÷0 machine b zs)
-machine (absoluteᵐ a) zs = readBack (absℤ (machine a zs))
 
 abbrev pub result : MachineExpression → List ℤ → ℤ
 result (arg i) zs = valueAt zs i
@@ -79,7 +77,6 @@ result (a -ᵐ b) zs = machine a zs -ℤ machine b zs
 result (a *ᵐ b) zs = machine a zs *ℤ machine b zs
 result (a ÷↓ᵐ b) zs = quotZ (machine a zs) (machine b zs)
 result (a ÷0ᵐ b) zs = machine a zs ÷0 machine b zs
-result (absoluteᵐ a) zs = absℤ (machine a zs)
 
 -- what the expression means
 abbrev pub meaning : MachineExpression → List ℤ → ℤ
@@ -91,7 +88,6 @@ meaning (a -ᵐ b) zs = meaning a zs -ℤ meaning b zs
 meaning (a *ᵐ b) zs = meaning a zs *ℤ meaning b zs
 meaning (a ÷↓ᵐ b) zs = meaning a zs ÷↓ meaning b zs
 meaning (a ÷0ᵐ b) zs = meaning a zs ÷0 meaning b zs
-meaning (absoluteᵐ a) zs = absℤ (meaning a zs)
 
 abbrev pub range : MachineExpression → List Range → Range
 range (arg i) rs = rangeAt rs i
@@ -102,7 +98,6 @@ range (a -ᵐ b) rs = differenceRange (range a rs) (range b rs)
 range (a *ᵐ b) rs = productRange (range a rs) (range b rs)
 range (a ÷↓ᵐ b) rs = quotientRange (range a rs) (range b rs)
 range (a ÷0ᵐ b) rs = quotientRange (range a rs) (range b rs)
-range (absoluteᵐ a) rs = absoluteRange (range a rs)
 
 abbrev pub safe : MachineExpression → List Range → Bool
 safe (arg i) rs = fits-i64 (rangeAt rs i)
@@ -113,7 +108,6 @@ safe (a -ᵐ b) rs = fits-i64 (range (a -ᵐ b) rs) && (safe a rs && safe b rs)
 safe (a *ᵐ b) rs = fits-i64 (range (a *ᵐ b) rs) && (safe a rs && safe b rs)
 safe (a ÷↓ᵐ b) rs = (fits-i64 (range (a ÷↓ᵐ b) rs) && (above-zero (range b rs) && not-below-zero (range a rs))) && (safe a rs && safe b rs)
 safe (a ÷0ᵐ b) rs = (fits-i64 (range (a ÷0ᵐ b) rs) && above-zero (range b rs)) && (safe a rs && safe b rs)
-safe (absoluteᵐ a) rs = fits-i64 (absoluteRange (range a rs)) && safe a rs
 
 read-back : {z : ℤ} → SFits w64 z → readBack z ≡ z
 read-back h = toZ-ofZ h
@@ -127,7 +121,6 @@ machine-is-result (a -ᵐ b) zs h = read-back h
 machine-is-result (a *ᵐ b) zs h = read-back h
 machine-is-result (a ÷↓ᵐ b) zs h = read-back h
 machine-is-result (a ÷0ᵐ b) zs h = read-back h
-machine-is-result (absoluteᵐ a) zs h = read-back h
 
 -- what holds of a safe expression: the exact result is the meaning, which is in the range, and it fits
 pub record Holds (e : MachineExpression) (rs : List Range) (zs : List ℤ) : Type 0 where
@@ -216,10 +209,6 @@ module _ {rs : List Range} {zs : List ℤ} (g : Given rs zs) where
       holds-by (a ÷0ᵐ b) rs zs (u .0)
       (toward-zero-in (range a rs) (range b rs) (meaning a zs) (meaning b zs) (u .1) (p .bounds) (q .bounds))
       (ap₂ _÷0_ (value-is a rs zs p) (value-is b rs zs q))
-  holds (absoluteᵐ a) t =
-      let s = both (fits-i64 (absoluteRange (range a rs))) (safe a rs) t in
-      let p = holds a (s .1) in
-      holds-by (absoluteᵐ a) rs zs (s .0) (absolute-in (range a rs) (meaning a zs) (p .bounds)) (ap absℤ (value-is a rs zs p))
 
   -- an operation's result fits
   pub fits : (e : MachineExpression) → T (safe e rs) → SFits w64 (result e zs)

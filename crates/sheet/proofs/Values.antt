@@ -1,13 +1,11 @@
--- A value that is in a range: its sign, what the machine reads back of it, and expressions over what a call gave. Assumes nothing.
+-- A value that is in a range: what the machine reads back of it, and expressions over what a call gave. Assumes nothing.
 use mathlib.Core.Path.{_≡_, sym, ap, _∙_, subst}
 use mathlib.Core.Bool.{_&&_}
 use mathlib.Core.List.{List, _∷_}
-use Prim.Native.Nat.{ℕ}
-use lib.Dec.{T, lt→ltb}
-use lib.IntN.{ℤ, pos, negsuc}
-use lib.Signed.{_<ℤ_}
+use lib.Dec.{T}
+use lib.IntN.{ℤ}
 use mir.Facts.{toZ-ofZ}
-use Rattle.numbers.specs.Ranges.{Range, from_to_, InRange}
+use Rattle.numbers.specs.Ranges.{Range, InRange}
 use Rattle.numbers.proofs.RangeArithmetic.{fits-i64, inside, range-fits}
 use Rattle.numbers.proofs.Reflection.{MachineExpression, Given, _and_, readBack, machine, result, meaning, range, safe, equal-in, called}
 
@@ -17,11 +15,6 @@ read {r} {z} p t = toZ-ofZ (range-fits r z t (p .bounds))
 
 pub keep : {r : Range} {z : ℤ} → InRange r z → T (fits-i64 r) → InRange r (readBack z)
 keep {r} p t = subst (InRange r) (sym (read p t)) p
-
--- the sign, by the range
-pub is-positive : {b : ℕ} {z : ℤ} → InRange (from 1 to b) z → pos 0 <ℤ z
-is-positive {z = pos n} p = record { lt = lt→ltb 0 n (p .bounds .0) }
-is-positive {z = negsuc n} p = absurd (p .bounds)
 
 pub ap₃ : (f : ℤ → ℤ → ℤ → ℤ) {x x′ y y′ z z′ : ℤ} → x ≡ x′ → y ≡ y′ → z ≡ z′ → f x y z ≡ f x′ y′ z′
 ap₃ f p q r = λ i. f (p i) (q i) (r i)

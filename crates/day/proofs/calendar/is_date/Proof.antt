@@ -1,5 +1,4 @@
 -- `day::calendar::is_date` meets its contract. Assumes nothing.
-use borrow.Author.Needs.{needs}
 use borrow.Author.Tests.{lt-ltb, le-ltb}
 use Rattle.day.specs.Calendar.{isDate}
 use Rattle.day.proofs.calendar.is_date.Statement.{statement}
