@@ -30,7 +30,12 @@ extern "C" {
         three: i16,
     ) -> u64;
 
-    fn fuortwem_read_log(log: *const u8, log_len: usize, answers: *mut u8, answers_len: usize) -> u64;
+    fn fuortwem_read_log(
+        log: *const u8,
+        log_len: usize,
+        answers: *mut u8,
+        answers_len: usize,
+    ) -> u64;
 }
 
 /// The refusal's number in the high half (0 for none) and the value in the low half.
@@ -127,7 +132,8 @@ pub fn judge(station: &Station, day: &Day, earlier: &Earlier) -> Verdict {
 /// A log read to its end or refused.
 #[inline]
 pub fn read_log(log: &[u8], answers: &mut [u8]) -> Outcome {
-    let returned = unsafe { fuortwem_read_log(log.as_ptr(), log.len(), answers.as_mut_ptr(), answers.len()) };
+    let returned =
+        unsafe { fuortwem_read_log(log.as_ptr(), log.len(), answers.as_mut_ptr(), answers.len()) };
     match halves(returned) {
         (0, length) => Outcome::Written(length as usize),
         (number, place) => Outcome::Refused(number, place as usize),

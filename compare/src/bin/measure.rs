@@ -2,8 +2,8 @@
 //! against the published routine's floating-point formulas; a log read whole against its days judged one by one. Every
 //! answer that is timed is checked first; a wrong one is the only reason for a failing exit status.
 use compare::days::{self, Case, Random};
-use compare::second::{calendar, log, sheet};
 use compare::office::{self, Handed};
+use compare::second::{calendar, log, sheet};
 use compare::{plain, Day, Earlier, Outcome, Station, Verdict};
 use std::fmt;
 use std::hint::black_box;
@@ -21,9 +21,11 @@ const LOG_SIZES: [usize; 3] = [16 * KIBIBYTE, 32 * KIBIBYTE, 64 * KIBIBYTE];
 fn main() -> ExitCode {
     let mut random = Random::new(17);
     let stations = [0; 64].map(|_| station(&mut random));
-    let timed: Vec<Timed> = (0..DAYS)
-        .map(|place| Timed::new(alone(&mut random, stations[place % stations.len()])))
-        .collect();
+    let timed = Timed::new(
+        (0..DAYS)
+            .map(|place| alone(&mut random, stations[place % stations.len()]))
+            .collect(),
+    );
     let logs = LOG_SIZES.map(|size| Log::of_size(size, stations[0], &mut random));
 
     println!("Processor: {}", processor());
@@ -265,23 +267,30 @@ fn alone(random: &mut Random, station: Station) -> Case {
     }
 }
 
-/// A day, and the same day as the library and as the routine take it: nothing is converted while the time runs.
+/// The measured days, and the same days as the library and as the routine take them: nothing is converted while the time runs, and each
+/// contender passes over an array of its own.
 struct Timed {
-    case: Case,
-    handed: Handed,
-    double: Readings<f64>,
+    cases: Vec<Case>,
+    handed: Vec<Handed>,
+    double: Vec<Readings<f64>>,
     #[cfg(has_fortran)]
-    single: Readings<f32>,
+    single: Vec<Readings<f32>>,
 }
 
 impl Timed {
-    fn new(case: Case) -> Self {
+    fn new(cases: Vec<Case>) -> Self {
         Timed {
-            handed: handed(&case),
-            double: Readings::new(&case, |value| value),
+            handed: cases.iter().map(handed).collect(),
+            double: cases
+                .iter()
+                .map(|case| Readings::new(case, |value| value))
+                .collect(),
             #[cfg(has_fortran)]
-            single: Readings::new(&case, |value| value as f32),
-            case,
+            single: cases
+                .iter()
+                .map(|case| Readings::new(case, |value| value as f32))
+                .collect(),
+            cases,
         }
     }
 }
@@ -374,26 +383,26 @@ fn check_random(random: &mut Random) -> Result<String, String> {
     ))
 }
 
-fn check_timed(timed: &[Timed]) -> Result<(), String> {
-    for day in timed {
-        let Verdict::Figure(figure) = agreed(&day.case)? else {
-            return Err(format!("{:?} is not answered", day.case));
+fn check_timed(timed: &Timed) -> Result<(), String> {
+    for (place, case) in timed.cases.iter().enumerate() {
+        let Verdict::Figure(figure) = agreed(case)? else {
+            return Err(format!("{case:?} is not answered"));
         };
         near(
             "the routine in f64",
-            day.double.inches(),
+            timed.double[place].inches(),
             figure,
             0.601,
-            &day.case,
+            case,
         )?;
         // Wide enough for single precision; it shows that the same equation is computed.
         #[cfg(has_fortran)]
         near(
             "the routine in Fortran",
-            day.single.inches().into(),
+            timed.single[place].inches().into(),
             figure,
             2.0,
-            &day.case,
+            case,
         )?;
     }
     Ok(())
@@ -411,8 +420,8 @@ fn near(name: &str, inches: f64, figure: u32, margin: f64, case: &Case) -> Resul
 // ---------------------------------------------------------------- times
 
 /// The best time of each pass in nanoseconds; the contenders take turns, so that a busy moment of the machine meets all.
-fn best<const N: usize>(mut contenders: [&mut dyn FnMut(); N]) -> [f64; N] {
-    let mut best = [f64::INFINITY; N];
+fn best(contenders: &mut [&mut dyn FnMut()]) -> Vec<f64> {
+    let mut best = vec![f64::INFINITY; contenders.len()];
     for _ in 0..PASSES {
         for (contender, best) in contenders.iter_mut().zip(&mut best) {
             let start = Instant::now();
@@ -464,25 +473,27 @@ impl fmt::Display for Ratio {
     }
 }
 
-fn measure_days(timed: &[Timed]) -> Vec<Ratio> {
+fn measure_days(timed: &Timed) -> Vec<Ratio> {
     let names = [
         "judge of the proved library",
         "the same sheet in plain i64",
         "the routine's formulas in f64",
         "the routine in Fortran, single precision",
     ];
-    let times = best([
-        &mut || each(timed, |day| day.handed.judged()),
-        &mut || each(timed, |day| by_plain(&day.case)),
-        &mut || each(timed, |day| day.double.inches()),
+    let times = best(&mut [
+        &mut || each(&timed.handed, Handed::judged),
+        &mut || each(&timed.cases, by_plain),
+        &mut || each(&timed.double, Readings::<f64>::inches),
         #[cfg(has_fortran)]
-        &mut || each(timed, |day| day.single.inches()),
+        &mut || each(&timed.single, Readings::<f32>::inches),
     ]);
     println!("\n{:<52}{:>8}", "A day handed in alone", "ns a day");
-    for (name, time) in names.iter().zip(times) {
-        println!("{name:<52}{:>8.1}", time / timed.len() as f64);
+    for (name, time) in names.iter().zip(&times) {
+        println!("{name:<52}{:>8.1}", time / timed.cases.len() as f64);
     }
-    let [office, plain, routine, fortran @ ..] = times;
+    let [office, plain, routine, fortran @ ..] = &times[..] else {
+        return Vec::new();
+    };
     let mut ratios = vec![
         ratio("judge / plain", office / plain, Wanted::AtMost(1.1)),
         ratio(
@@ -491,7 +502,7 @@ fn measure_days(timed: &[Timed]) -> Vec<Ratio> {
             Wanted::AtLeast(3.0),
         ),
     ];
-    ratios.extend(fortran.map(|fortran| {
+    ratios.extend(fortran.iter().map(|fortran| {
         ratio(
             "routine in Fortran / judge",
             fortran / office,
@@ -501,39 +512,76 @@ fn measure_days(timed: &[Timed]) -> Vec<Ratio> {
     ratios
 }
 
+/// What is timed of one log, all sizes in turn.
+struct LogTimes {
+    not_cleared: f64,
+    cleared: f64,
+    judged: f64,
+    plain_pass: f64,
+}
+
+/// The four ways over one log, each a pass of its own; the buffers are lent to the first two.
+fn ways<'a>(
+    log: &'a Log,
+    answers: &'a mut [u8],
+    cleared: &'a mut [u8],
+) -> [Box<dyn FnMut() + 'a>; 4] {
+    let read = |buffer: &mut [u8]| black_box(office::read_log(black_box(&log.bytes), buffer));
+    [
+        Box::new(move || {
+            read(black_box(&mut *answers));
+        }),
+        Box::new(move || {
+            black_box(&mut *cleared).fill(0);
+            read(black_box(&mut *cleared));
+        }),
+        Box::new(|| each(&log.handed, Handed::judged)),
+        Box::new(|| {
+            let bytes = black_box(&log.bytes).iter();
+            black_box(bytes.map(|&byte| u64::from(byte)).sum::<u64>());
+        }),
+    ]
+}
+
+fn time_logs(logs: &[Log]) -> Vec<LogTimes> {
+    let buffer = |log: &Log| vec![0; log.expected.len()];
+    let mut answers: Vec<_> = logs.iter().map(buffer).collect();
+    let mut cleared = answers.clone();
+    let mut ways: Vec<_> = logs
+        .iter()
+        .zip(&mut answers)
+        .zip(&mut cleared)
+        .flat_map(|((log, answers), cleared)| ways(log, answers, cleared))
+        .collect();
+    let mut contenders: Vec<&mut dyn FnMut()> =
+        ways.iter_mut().map(|way| &mut **way as _).collect();
+    best(&mut contenders)
+        .chunks(4)
+        .map(|times| LogTimes {
+            not_cleared: times[0],
+            cleared: times[1],
+            judged: times[2],
+            plain_pass: times[3],
+        })
+        .collect()
+}
+
 fn measure_logs(logs: &[Log]) -> Vec<Ratio> {
-    let names = [
-        "read_log, answer buffer not cleared",
-        "read_log, answer buffer cleared first",
-        "its days judged one by one",
-        "a plain pass that adds up its bytes",
-    ];
     println!(
         "\n{:<40}{:>8}{:>12}{:>10}{:>12}",
         "A log read whole", "KiB", "us a log", "MB/s", "days/s"
     );
+    let times = time_logs(logs);
     let mut ratios = Vec::new();
-    let mut whole = Vec::new();
-    for (log, size) in logs.iter().zip(LOG_SIZES) {
+    for ((log, size), times) in logs.iter().zip(LOG_SIZES).zip(&times) {
         let kibibytes = size / KIBIBYTE;
-        let mut answers = vec![0; log.expected.len()];
-        let mut cleared = answers.clone();
-        let read = |buffer: &mut [u8]| black_box(office::read_log(black_box(&log.bytes), buffer));
-        let times = best([
-            &mut || {
-                read(black_box(&mut answers));
-            },
-            &mut || {
-                black_box(&mut cleared).fill(0);
-                read(black_box(&mut cleared));
-            },
-            &mut || each(&log.handed, Handed::judged),
-            &mut || {
-                let bytes = black_box(&log.bytes).iter();
-                black_box(bytes.map(|&byte| u64::from(byte)).sum::<u64>());
-            },
-        ]);
-        for (name, time) in names.iter().zip(times) {
+        let named = [
+            ("read_log, answer buffer not cleared", times.not_cleared),
+            ("read_log, answer buffer cleared first", times.cleared),
+            ("its days judged one by one", times.judged),
+            ("a plain pass that adds up its bytes", times.plain_pass),
+        ];
+        for (name, time) in named {
             let a_second = |count: usize| count as f64 / time * 1e9;
             println!(
                 "{name:<40}{kibibytes:>8}{:>12.2}{:>10.1}{:>12.0}",
@@ -542,15 +590,20 @@ fn measure_logs(logs: &[Log]) -> Vec<Ratio> {
                 a_second(log.handed.len()),
             );
         }
-        let [not_cleared, _, judged, _] = times;
-        let name = format!("read_log / its days judged, {kibibytes} KiB");
-        ratios.push(ratio(&name, not_cleared / judged, Wanted::AtMost(1.3)));
-        whole.push(not_cleared);
+        ratios.push(ratio(
+            &format!("read_log / its days judged, {kibibytes} KiB"),
+            times.not_cleared / times.judged,
+            Wanted::AtMost(1.3),
+        ));
     }
-    let [_, half, entire] = whole[..] else {
+    let [_, half, entire] = &times[..] else {
         return ratios;
     };
-    let name = "read_log of 64 KiB / of 32 KiB";
-    ratios.push(ratio(name, entire / half, Wanted::AtMost(2.1)));
+    let growth = entire.not_cleared / half.not_cleared;
+    ratios.push(ratio(
+        "read_log of 64 KiB / of 32 KiB",
+        growth,
+        Wanted::AtMost(2.1),
+    ));
     ratios
 }
