@@ -4,6 +4,7 @@ ghost use mathlib.Core.Bool.{not, cond};
 ghost use mathlib.Core.List.{[], _∷_};
 ghost use lib.IntN.{natAbs};
 ghost use Rattle.numbers.specs.Ranges.{InRange};
+ghost use Rattle.tables.specs.Tables.{DayTables, PressureTable};
 ghost use Rattle.sheet.specs.Accepted.{ReadingsInRange, EntriesInRange, EarlierInRange};
 ghost use Rattle.sheet.specs.Quantities as quantities;
 ghost use Rattle.sheet.specs.StepSheet as sheet;
@@ -119,8 +120,15 @@ fn worked(x: Readings, t: Entries, means: sheet::Earlier, q: i64) -> Verdict
     Verdict::Figure(sheet::figure::figure(x, t, means, q) as u32)
 }
 
-// The refusals in their order, then the sheet.
-pub fn decide(station: Station, day: Day, earlier: Earlier) -> Verdict
+// The refusals in their order, then the sheet, by the tables lent.
+pub fn decide(
+    days: &[[u32; 366]; 4],
+    pressures: &[u32; 3001],
+    station: Station,
+    day: Day,
+    earlier: Earlier,
+) -> Verdict
+    requires { ⌜ DayTables (now days) × PressureTable (now pressures) ⌝ }
     ensures { λ r. ⌜ r ≡ judged station day earlier ⌝ }
     ensures { λ r. ⌜ FigureOwed station day earlier r ⌝ }
 {
@@ -144,7 +152,7 @@ pub fn decide(station: Station, day: Day, earlier: Earlier) -> Verdict
         return Verdict::Refused(Refusal::OutOfOrder);
     }
     let x = readings_of(day);
-    let t = entries_at(day.d, station.elevation);
+    let t = entries_at(days, pressures, day.d, station.elevation);
     let means = earlier_of(earlier);
     let q = clear_of(station, day);
     worked(x, t, means, q)

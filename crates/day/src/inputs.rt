@@ -4,6 +4,7 @@ ghost use mathlib.Core.Path.{_≡_};
 ghost use Prim.Native.Nat.{_≤_};
 ghost use lib.IntN.{pos};
 ghost use Rattle.numbers.specs.Ranges.{InRange, from_to_};
+ghost use Rattle.tables.specs.Tables.{DayTables, PressureTable};
 ghost use Rattle.sheet.specs.Quantities as quantities;
 ghost use Rattle.sheet.specs.Accepted.{EarlierInRange};
 ghost use Rattle.day.specs.Rules.{meanFault};
@@ -51,17 +52,23 @@ pub fn readings_of(day: Day) -> Readings
 }
 
 // The tables' entries at the day d and at the elevation.
-pub fn entries_at(d: u16, elevation: u16) -> Entries
+pub fn entries_at(
+    days: &[[u32; 366]; 4],
+    pressures: &[u32; 3001],
+    d: u16,
+    elevation: u16,
+) -> Entries
+    requires { ⌜ DayTables (now days) × PressureTable (now pressures) ⌝ }
     requires { ⌜ (1 ≤ d) × (d ≤ 366) × (elevation ≤ 3000) ⌝ }
     ensures { λ r. ⌜ r ≡ entriesAt d elevation ⌝ }
 {
-    let row = tables::day_table::day_row(d as usize);
+    let day = d as usize;
     Entries {
-        albedo: wide_entry(row[0]),
-        a1: wide_entry(row[1]),
-        aw: wide_entry(row[2]),
-        bw: wide_entry(row[3]),
-        p: wide_entry(tables::pressure(elevation as usize)),
+        albedo: wide_entry(tables::albedo(&days[0], day)),
+        a1: wide_entry(tables::a1(&days[1], day)),
+        aw: wide_entry(tables::aw(&days[2], day)),
+        bw: wide_entry(tables::bw(&days[3], day)),
+        p: wide_entry(tables::pressure(pressures, elevation as usize)),
     }
 }
 

@@ -3,7 +3,7 @@ ghost use mathlib.Core.Path.{_≡_};
 ghost use Rattle.day.specs.Rules.{numberOf};
 
 pub mod calendar;
-mod decide;
+pub mod decide;
 mod inputs;
 pub mod judge;
 pub mod readings;

@@ -19,7 +19,8 @@ pub mod RoundedLimit
 pub mod RangeArithmetic
 pub mod RangeTests
 pub mod Signs
-pub mod TableRows
+pub mod Table
 pub mod Reflection
 pub mod WholeRoots
+pub mod Newton
 pub mod WorkedChecks

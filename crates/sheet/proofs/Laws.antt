@@ -6,9 +6,10 @@ use native.Mathlib.Nat.{div-le-of-le-mul}
 use native.Mathlib.Omega.{arith}
 use lib.IntN.{ℤ, pos, negsuc, natAbs, _*ℤ_, _-ℤ_}
 use borrow.Author.Tests.{ltb-false}
-use Rattle.numbers.specs.Whole.{_÷0_}
+use Rattle.numbers.specs.Whole.{_÷0_, wholeRoot, WholeRoot}
 use Rattle.numbers.specs.Ranges.{InRange, from_to_}
 use Rattle.numbers.proofs.Quotients.{shared-factor}
+use Rattle.numbers.proofs.WholeRoots.{root-is}
 use Rattle.sheet.specs.Quantities as quantities
 use Rattle.sheet.specs.StepSheet.{w1, aboveTwiceClear, ρ, soilHeat}
 
@@ -32,6 +33,11 @@ unfolding ρ aboveTwiceClear
 ratio-in (pos s) (pos q) p r e = record { bounds = (zero-le, ratio-most s q (ltb-false (2 * q) (100_000_000 * s) e) (r .bounds .0)) }
 ratio-in (pos s) (negsuc q) p r e = absurd (r .bounds)
 ratio-in (negsuc s) q p r e = absurd (p .bounds)
+
+-- the whole root of the number's bits is the sheet's, of a number that is not below 0
+pub root-of-natAbs : {a b : ℕ} {z : ℤ} {root : ℕ} → InRange (from a to b) z → WholeRoot (natAbs z) root → pos root ≡ wholeRoot z
+root-of-natAbs {z = pos n} {root = root} p h = root-is n root h
+root-of-natAbs {z = negsuc n} p h = absurd (p .bounds)
 
 pub soil-none : (m z : ℤ) {k : ℤ} → k ≡ pos 0 → pos 0 ≡ soilHeat m k z
 unfolding soilHeat

@@ -1,9 +1,11 @@
 -- The range of each quantity of the step sheet, in the sheet's unit: between these the code is proved not to overflow. The readings' own ranges
 -- are document 01's; the others are wide enough for what the readings can give, and no wider than the arithmetic needs. Assumes nothing.
 use Rattle.numbers.specs.Ranges.{Range, from_to_, minus_to_}
-pub use Rattle.vapour.specs.Quantities.{temperature, vapourPressure, root}
 
--- ---- the readings, in tenths; `temperature` stands in vapour/specs/Quantities.antt
+-- ---- the readings, in tenths
+
+abbrev pub temperature : Range
+temperature = minus 94 to 1_291
 
 abbrev pub radiation : Range
 radiation = from 0 to 12_000
@@ -45,7 +47,13 @@ bw = from 7_000_000 to 11_000_000
 abbrev pub pressure : Range
 pressure = from 700_000 to 1_013_000
 
--- ---- the sheet's lines; `vapourPressure` and `root` stand in vapour/specs/Quantities.antt
+-- ---- the sheet's lines
+
+abbrev pub v4 : Range
+v4 = from 165_000_000 to 2_111_000_000
+
+abbrev pub vapourPressure : Range
+vapourPressure = from 80_000_000 to 16_000_000_000
 
 abbrev pub slope : Range
 slope = from 1_000_000 to 1_000_000_000
@@ -74,6 +82,9 @@ cloudFactor = minus 70_000_000 to 2_260_000_000
 
 abbrev pub emission : Range
 emission = from 0 to 600_000_000
+
+abbrev pub root : Range
+root = from 0 to 400_000_000
 
 abbrev pub emittance : Range
 emittance = minus 600_000_000 to 360_000_000

@@ -1,21 +1,29 @@
 -- The step sheet, line by line, in document 01's order and letters. f is a temperature in tenths of a degree Fahrenheit and m the mean; s is the
--- radiation and w the wind run, in tenths. `÷↓` is "down", `÷0` drops the fraction toward zero. The lines of the vapour pressure are defined in
--- crate `vapour`, which has a table of them. Assumes nothing.
+-- radiation and w the wind run, in tenths. `÷↓` is "down", `÷0` drops the fraction toward zero. Assumes nothing.
 use mathlib.Core.Bool.{Bool, cond}
 use Prim.Native.Nat.{zero, suc}
 use lib.IntN.{ℤ, pos, negsuc, _+ℤ_, _-ℤ_, _*ℤ_}
 use lib.Signed.{ltZ, leZ}
-use Rattle.numbers.specs.Whole.{_÷↓_, _÷0_, nearestQuotient, at-leastℤ, at-mostℤ}
-unfoldable pub use Rattle.vapour.specs.VapourPressure.{U, V2, V4, V8, e, r}
+use Rattle.numbers.specs.Whole.{_÷↓_, _÷0_, nearestQuotient, absℤ, wholeRoot, at-leastℤ, at-mostℤ}
 use Rattle.sheet.specs.declared.Readings.{Readings}
 use Rattle.sheet.specs.declared.Entries.{Entries}
 use Rattle.sheet.specs.declared.Earlier.{Earlier}
 
 -- ---- U = 41f + 67,600. V2 = U²/10, V4 = V2²/10⁹, V8 = V4²/10⁹, V6 = V4 × V2/10⁹, V7 = V6 × U/10⁵, each down.
 
--- U, V2, V4 and V8 stand in vapour/specs/VapourPressure.antt
+-- hundred-thousandths; the rest in billionths
+unfoldable pub U : ℤ → ℤ
+U f = pos 41 *ℤ f +ℤ pos 67_600
 
--- billionths
+unfoldable pub V2 : ℤ → ℤ
+V2 f = U f *ℤ U f ÷↓ pos 10
+
+unfoldable pub V4 : ℤ → ℤ
+V4 f = V2 f *ℤ V2 f ÷↓ pos 1_000_000_000
+
+unfoldable pub V8 : ℤ → ℤ
+V8 f = V4 f *ℤ V4 f ÷↓ pos 1_000_000_000
+
 unfoldable pub V6 : ℤ → ℤ
 V6 f = V4 f *ℤ V2 f ÷↓ pos 1_000_000_000
 
@@ -24,7 +32,9 @@ V7 f = V6 f *ℤ U f ÷↓ pos 100_000
 
 -- ---- Vapour pressure e = (V8 - 1,900 × |f + 160| + 1,316,000) × 338,639/100,000, down; ea at the dew point.
 
--- e stands in vapour/specs/VapourPressure.antt
+-- 10⁻⁹ kPa
+unfoldable pub e : ℤ → ℤ
+e f = (V8 f -ℤ pos 1_900 *ℤ absℤ (f +ℤ pos 160) +ℤ pos 1_316_000) *ℤ pos 338_639 ÷↓ pos 100_000
 
 -- ---- Slope D = V7/5 down, less 116,000, at m. Latent heat M = 15,006,000 - 787(m - 320).
 
@@ -93,7 +103,9 @@ B maximum minimum = pos 4_903 *ℤ ((fourthPower maximum +ℤ fourthPower minimu
 
 -- ---- r = whole square root of 10⁷ × ea, down. Emittance = a1 - (139r/100 down), may be negative.
 
--- r stands in vapour/specs/VapourPressure.antt
+-- 10⁻⁸
+unfoldable pub r : ℤ → ℤ
+r ea = wholeRoot (pos 10_000_000 *ℤ ea)
 
 -- billionths
 unfoldable pub emittance : ℤ → ℤ → ℤ

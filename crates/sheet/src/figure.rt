@@ -71,9 +71,9 @@ pub fn drying(x: Readings, t: Entries) -> i64
     requires { ⌜ ReadingsInRange x × EntriesInRange t ⌝ }
     ensures { λ r. ⌜ (r ≡ sheet.drying x t) × InRange quantities.drying r ⌝ }
 {
-    let ea = vapour::vapour_pressure(x.dewpoint);
-    let e_maximum = vapour::vapour_pressure(x.maximum);
-    let e_minimum = vapour::vapour_pressure(x.minimum);
+    let ea = crate::temperature::vapour_pressure(x.dewpoint);
+    let e_maximum = crate::temperature::vapour_pressure(x.maximum);
+    let e_minimum = crate::temperature::vapour_pressure(x.minimum);
     let v = crate::wind::deficit(e_maximum, e_minimum, ea);
     let w = crate::wind::counted_wind(x.wind);
     let wf = crate::wind::wind_factor(t.aw, t.bw, w);

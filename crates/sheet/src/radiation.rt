@@ -39,6 +39,16 @@ pub fn emission(maximum: i64, minimum: i64) -> i64
     4_903 * ((high2 * high2 + low2 * low2) / 1_000_000) / 13_122_000
 }
 
+// r, at the dew point f. The first guess is the root of the main term of e, 3.38639·y⁸: it is near, and saves steps.
+pub fn root(f: i64) -> i64
+    requires { ⌜ InRange quantities.temperature f ⌝ }
+    ensures { λ r. ⌜ (r ≡ sheet.r (sheet.e f)) × InRange quantities.root r ⌝ }
+{
+    let ea = crate::temperature::vapour_pressure(f);
+    let guess = 184 * crate::temperature::fourth_power(f) / 1_000;
+    numbers::whole_root((10_000_000 * ea) as u64, guess as u64) as i64
+}
+
 // The emittance, which may be negative.
 pub fn emittance(a1: i64, r: i64) -> i64
     requires { ⌜ InRange quantities.a1 a1 × InRange quantities.root r ⌝ }
@@ -107,7 +117,7 @@ pub fn outgoing(maximum: i64, minimum: i64, dewpoint: i64, a1: i64, s: i64, q: i
     requires { ⌜ sheet.aboveTwiceClear s q ≡ false ⌝ }
     ensures { λ r. ⌜ (r ≡ parts.outgoing maximum minimum dewpoint a1 s q) × InRange quantities.backRadiation r ⌝ }
 {
-    let r = vapour::root(dewpoint);
+    let r = root(dewpoint);
     let share = emittance(a1, r);
     let b = emission(maximum, minimum);
     let k = cloud_factor(s, q);

@@ -1,24 +1,27 @@
--- The tables of base + scale · exp(-(factor · (d - centre))²), for any such numbers: `bell-entry`. Assumes nothing.
+-- The tables of base + scale · exp(-(factor · (d - centre))²), for any such numbers: `bell-table`. Assumes nothing.
 use mathlib.Core.Path.{_≡_, sym, _∙_, ap, ap₂}
 use mathlib.Core.Logic.{Or·elim}
 use mathlib.Core.Quot.{Quot-set}
+use mathlib.Core.List.{List}
 use Prim.Native.Nat.{ℕ, _*_, _-_, _^_, _≤_}
 use native.Mathlib.Nat.{le-total}
 use native.Mathlib.Omega.{arith}
 use lib.Dec.{T}
+use lib.ListN.{length}
 use Rattle.numbers.specs.Solver.{_:-_, _:*_, _:^_, _:=_}
 use Rattle.numbers.specs.Ranges.{Range}
 use Rattle.numbers.specs.Fractions.{ℚ, _*ℚ_, _-ℚ_, _^ℚ_}
 use Rattle.numbers.proofs.FractionSolver.{ringℚ}
 use Rattle.numbers.proofs.Order.{≤ℚ-refl}
 use Rattle.tables.specs.Series.{expTerm}
-use Rattle.tables.specs.Tables.{billionth, BellEntry, Entry}
+use Rattle.tables.specs.Tables.{billionth, BellEntry, DayTable}
 use Rattle.tables.specs.Values.{apart, Bell, bellSums, bellCurve, curveAt}
 use Rattle.numbers.proofs.StrictOrder.{whole, whole-mul, whole-sub}
 use Rattle.numbers.proofs.FractionPowers.{whole-power}
+use Rattle.numbers.proofs.Table.{every}
 use Rattle.tables.proofs.Terms.{exp-sums}
 use Rattle.tables.proofs.SumTests.{Encloses}
-use Rattle.tables.proofs.Curves.{entryTest, curve-entry}
+use Rattle.tables.proofs.Curves.{entryTest, curve-table}
 
 -- how far apart, squared: (a - b)², whichever is the larger
 apart-squared : (a b : ℕ) → whole (apart a b) ^ℚ 2 ≡ (whole a -ℚ whole b) ^ℚ 2
@@ -65,10 +68,11 @@ bell-encloses factor centre b h e d =
     }
 
 -- the rule's base and scale are those of the bell, which has them in billionths
-pub bell-entry : (range : Range) (b : Bell) (base scale factor : ℚ) (centre : ℕ) →
+pub bell-table : (range : Range) (b : Bell) (base scale factor : ℚ) (centre : ℕ) →
     whole (b .base) *ℚ billionth ≡ base → whole (b .scale) *ℚ billionth ≡ scale → whole (b .den) *ℚ factor ≡ whole (b .num) → b .centre ≡ centre →
-    (d r : ℕ) → T (entryTest range (bellCurve b) d r) → Entry (curveAt (bellCurve b) d) (BellEntry base scale factor centre d) range r
+    (xs : List ℕ) → length xs ≡ 366 → T (every (entryTest range (bellCurve b)) 1 xs) →
+    DayTable (curveAt (bellCurve b)) (BellEntry base scale factor centre) range xs
 unfolding BellEntry
-bell-entry range b base scale factor centre eb es ef ec =
-    curve-entry range (bellCurve b) eb es (BellEntry base scale factor centre)
+bell-table range b base scale factor centre eb es ef ec =
+    curve-table range (bellCurve b) eb es (BellEntry base scale factor centre)
     (λ d r nearest. nearest _ (bell-encloses factor centre b ef ec d))

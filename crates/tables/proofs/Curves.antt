@@ -1,20 +1,24 @@
--- An entry of a table of days: one computed test of it, and what follows (`curve-entry`): it is the table's value, it is in the table's range, and
--- it is nearest to base + scale · s for every series that the table's sums enclose. Assumes nothing.
+-- An entry of a table of days: one computed test of it, and what follows: it is the table's value, it is in the table's range, and
+-- it is nearest to base + scale · s for every series that the table's sums enclose; and a table of them (`curve-table`). Assumes nothing.
 use mathlib.Core.Path.{_≡_, subst₂}
 use mathlib.Core.Bool.{Bool, _&&_}
-use Prim.Native.Nat.{ℕ, suc}
+use mathlib.Core.List.{List}
+use Prim.Native.Nat.{ℕ, suc, _-_}
+use native.Mathlib.Omega.{arith}
 use lib.Dec.{T, eqb, eqb→eq}
 use lib.IntN.{pos}
+use lib.ListN.{length, getD}
 use Rattle.numbers.specs.Ranges.{Range, inRange}
 use Rattle.numbers.specs.Fractions.{ℚ, _+ℚ_, _*ℚ_}
 use Rattle.numbers.proofs.Order.{nonneg-mul, nonneg-ratio, <ℚ-ratio}
 use Rattle.numbers.proofs.WholeFractions.{nonneg-ℕ}
 use Rattle.tables.specs.Series.{NearestOfSeries}
-use Rattle.tables.specs.Tables.{billionth, Entry}
+use Rattle.tables.specs.Tables.{billionth, Entry, DayTable}
 use Rattle.tables.specs.Values.{Enclosure, Curve, rounded, curveAt}
 use Rattle.numbers.proofs.StrictOrder.{whole}
 use Rattle.numbers.proofs.RangeArithmetic.{both}
 use Rattle.numbers.proofs.RangeTests.{test-in-range}
+use Rattle.numbers.proofs.Table.{every, entry-passes}
 use Rattle.tables.proofs.Nearest.{nearest-between}
 use Rattle.tables.proofs.SumTests.{nearTest, Encloses, sum-nearest}
 
@@ -46,7 +50,7 @@ curve-nearest c d r test e =
     )
 
 -- `rule` makes the table's rule of it; base and scale are the rule's, the curve's in billionths
-pub curve-entry : (range : Range) (c : Curve) {base scale : ℚ} → whole (c .base) *ℚ billionth ≡ base → whole (c .scale) *ℚ billionth ≡ scale →
+curve-entry : (range : Range) (c : Curve) {base scale : ℚ} → whole (c .base) *ℚ billionth ≡ base → whole (c .scale) *ℚ billionth ≡ scale →
     (Rule : ℕ → ℕ → Type 0) →
     ((d r : ℕ) → ((t : ℕ → ℚ) → Encloses (c .sums d) t → NearestOfSeries billionth r (λ s. base +ℚ scale *ℚ s) t) → Rule d r) →
     (d r : ℕ) → T (entryTest range c d r) → Entry (curveAt c d) (Rule d) range r
@@ -60,4 +64,15 @@ curve-entry range c b s Rule rule d r test =
       is-value = eqb→eq r (curveAt c d) (valued .0);
       rule = rule d r (λ t e. subst₂ (λ x y. NearestOfSeries billionth r (λ s. x +ℚ y *ℚ s) t) b s (curve-nearest c d r (valued .1) e));
       in-range = test-in-range range (pos r) (ranged .0);
+    }
+
+-- a table of 366 entries that all pass the test
+pub curve-table : (range : Range) (c : Curve) {base scale : ℚ} → whole (c .base) *ℚ billionth ≡ base → whole (c .scale) *ℚ billionth ≡ scale →
+    (Rule : ℕ → ℕ → Type 0) →
+    ((d r : ℕ) → ((t : ℕ → ℚ) → Encloses (c .sums d) t → NearestOfSeries billionth r (λ s. base +ℚ scale *ℚ s) t) → Rule d r) →
+    (xs : List ℕ) → length xs ≡ 366 → T (every (entryTest range c) 1 xs) → DayTable (curveAt c) Rule range xs
+curve-table range c b s Rule rule xs n test =
+    record {
+      entries = λ d l h.
+          curve-entry range c b s Rule rule d (getD xs (d - 1) 0) (entry-passes (entryTest range c) 1 xs test (d - 1) d (omega arith) (omega arith));
     }

@@ -1,4 +1,4 @@
--- The lemmas that belong to no one function. The first three know no table.
+-- The lemmas that belong to no one function. The first four know no table.
 pub mod Nearest
 pub mod Sums
 pub mod Terms
@@ -8,5 +8,4 @@ pub mod Bells
 pub mod Arcs
 pub mod PowerTests
 pub mod PressureEntries
-pub mod Rows
 pub mod ValueRanges

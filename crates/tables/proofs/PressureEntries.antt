@@ -1,24 +1,27 @@
--- The entries of the table of pressures: one computed test, in fixed point at 10²⁰, and what follows from it (`pressure-entry`). Powers stay
+-- The entries of the table of pressures: one computed test, in fixed point at 10²⁰, and what follows from it (`pressure-table`). Powers stay
 -- symbols throughout. Assumes nothing.
 use mathlib.Core.Path.{_≡_, refl, sym, _∙_, ap, subst}
 use mathlib.Core.Logic.{⊎-elim}
 use mathlib.Core.Bool.{Bool, true, false, _&&_, cond}
+use mathlib.Core.List.{List}
 use Prim.Native.Nat.{ℕ, zero, suc, _+_, _*_, _-_, _^_, _≤_, _<_}
 use native.Mathlib.Nat.{mul-le-mul, mul-le-mul-right, pow-le-pow-left, lt-irrefl, lt-of-lt-of-le, lt-trans, eq-or-lt-of-le}
 use native.Mathlib.Omega.{arith}
 use lib.Dec.{T, ltb, ltb→lt, lt→ltb, lit<}
 use lib.IntN.{pos}
+use lib.ListN.{length, getD}
 use Rattle.numbers.specs.Solver.{_:+_, _:-_, _:*_, _:=_}
 use Rattle.numbers.specs.Ratios.{Ratio, _over_, _*ᴿ_, eqᴿ}
 use Rattle.numbers.specs.Ranges.{InRange, inRange}
 use Rattle.numbers.specs.Fractions.{ℚ, fraction, _+ℚ_, _*ℚ_, _-ℚ_}
 use Rattle.numbers.proofs.FractionSolver.{ringℚ, _#_}
-use Rattle.tables.specs.Tables.{pressureRatio, PressureEntry, pressureRange, Entry}
+use Rattle.tables.specs.Tables.{pressureRatio, PressureEntry, pressureRange, Entry, PressureTable}
 use Rattle.tables.specs.Values.{first, ratioNumerator, ratioDenominator, seaLevel, pressureAt}
 use Rattle.numbers.proofs.StrictOrder.{whole, whole-mul, whole-odd, whole-sub, over-cancels}
 use Rattle.numbers.proofs.FractionPowers.{powers-below}
 use Rattle.numbers.proofs.RangeArithmetic.{both}
 use Rattle.numbers.proofs.RangeTests.{test-in-range}
+use Rattle.numbers.proofs.Table.{every, entry-passes}
 use Rattle.tables.proofs.PowerTests.{NearestPower, powerTest, power-nearest}
 
 -- ---- the value: the first number that is not too small
@@ -87,7 +90,7 @@ pressure-rule e r h p near =
           (ratio-is e h) (doubled _ tt _ ∙ half-more r) (near .high);
     }
 
--- ---- an entry
+-- ---- the table
 
 abbrev pub fixedTest : ℕ → ℕ → Bool
 fixedTest e r = powerTest 100000000000000000000 seaLevel (ratioNumerator e) ratioDenominator r
@@ -103,7 +106,7 @@ pub pressure-is : (e r : ℕ) → e ≤ 3000 → T (fixedTest e r) → r ≡ pre
 unfolding pressureAt
 pressure-is e r l t = sym (first-nearest seaLevel (ratioNumerator e) ratioDenominator 5257 r (omega arith) (pressure-nearest e r l t))
 
-pub pressure-entry : (e r : ℕ) → e ≤ 3000 → T (pressureTest e r) → Entry (pressureAt e) (PressureEntry e) pressureRange r
+pressure-entry : (e r : ℕ) → e ≤ 3000 → T (pressureTest e r) → Entry (pressureAt e) (PressureEntry e) pressureRange r
 unfolding pressureTest
 pressure-entry e r l test =
     let passed = both (inRange pressureRange (pos r)) (fixedTest e r) test in
@@ -113,3 +116,8 @@ pressure-entry e r l test =
       rule = pressure-rule e r l (omega (arith, ranged .bounds .0)) (pressure-nearest e r l (passed .1));
       in-range = ranged;
     }
+
+-- a table of 3,001 entries that all pass the test
+pub pressure-table : (xs : List ℕ) → length xs ≡ 3001 → T (every pressureTest 0 xs) → PressureTable xs
+pressure-table xs n test =
+    record { entries = λ e l. pressure-entry e (getD xs e 0) l (entry-passes pressureTest 0 xs test e e (omega arith) (omega arith)) }

@@ -1,7 +1,7 @@
 -- What each entry of the five constant tables is: the published formulas, in document 01's order. Assumes nothing.
 use mathlib.Core.Path.{_≡_}
-use mathlib.Core.List.{List}
-use Prim.Native.Nat.{ℕ, _+_, _*_, _-_, _/_, _<_, _≤_}
+use mathlib.Core.List.{List, []}
+use Prim.Native.Nat.{ℕ, _-_, _≤_}
 use lib.IntN.{pos}
 use lib.ListN.{getD}
 use Rattle.numbers.specs.Ranges.{Range, InRange, from_to_}
@@ -80,24 +80,31 @@ bwRange = from 7000000 to 11000000
 abbrev pub pressureRange : Range
 pressureRange = from 700000 to 1013000
 
--- ---- what a row holds
+-- ---- what a table is: each of its entries meets the rule
 
--- the four entries of the day d
-pub record DayRow (d : ℕ) (r : List ℕ) : Type 0 where
-  pub albedo : Entry (albedoAt d) (AlbedoEntry d) albedoRange (getD r 0 0)
-  pub a1 : Entry (a1At d) (A1Entry d) a1Range (getD r 1 0)
-  pub aw : Entry (awAt d) (AwEntry d) awRange (getD r 2 0)
-  pub bw : Entry (bwAt d) (BwEntry d) bwRange (getD r 3 0)
+-- a table of days, the day 1 first: the value, the rule and the range of each of its 366 entries
+pub record DayTable (value : ℕ → ℕ) (Rule : ℕ → ℕ → Type 0) (range : Range) (t : List ℕ) : Type 0 where
+  pub entries : (d : ℕ) → 1 ≤ d → d ≤ 366 → Entry (value d) (Rule d) range (getD t (d - 1) 0)
 
--- the value j places on in a row [a, b, c]: (a + c·j² - b·j)/65,536, down
-unfoldable pub along : List ℕ → ℕ → ℕ
-along r j = (getD r 0 0 + getD r 2 0 * j * j - getD r 1 0 * j) / 65536
+abbrev pub AlbedoTable : List ℕ → Type 0
+AlbedoTable = DayTable albedoAt AlbedoEntry albedoRange
 
--- the pressures of the 64 metres from `start` on, as far as 3,000, by a row so bounded that their sums fit 64 bits and none falls below zero
-pub record PressureRow (start : ℕ) (r : List ℕ) : Type 0 where
-  pub a-low : 46000000000 ≤ getD r 0 0
-  pub a-high : getD r 0 0 ≤ 67000000000
-  pub b-high : getD r 1 0 ≤ 8000000
-  pub c-high : getD r 2 0 ≤ 400
-  pub entries : (j : ℕ) → j < 64 → start + j ≤ 3000 →
-      Entry (pressureAt (start + j)) (PressureEntry (start + j)) pressureRange (along r j)
+abbrev pub A1Table : List ℕ → Type 0
+A1Table = DayTable a1At A1Entry a1Range
+
+abbrev pub AwTable : List ℕ → Type 0
+AwTable = DayTable awAt AwEntry awRange
+
+abbrev pub BwTable : List ℕ → Type 0
+BwTable = DayTable bwAt BwEntry bwRange
+
+-- the table of pressures, by the metre: 3,001 entries from 0 on
+pub record PressureTable (t : List ℕ) : Type 0 where
+  pub entries : (e : ℕ) → e ≤ 3000 → Entry (pressureAt e) (PressureEntry e) pressureRange (getD t e 0)
+
+-- the four tables of days together: albedo, a1, aw and bw
+pub record DayTables (t : List (List ℕ)) : Type 0 where
+  pub albedo : AlbedoTable (getD t 0 [])
+  pub a1 : A1Table (getD t 1 [])
+  pub aw : AwTable (getD t 2 [])
+  pub bw : BwTable (getD t 3 [])

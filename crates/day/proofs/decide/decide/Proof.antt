@@ -220,4 +220,4 @@ decide-spec =
     tie.close
     (tie.spec (λ c κs. search needs) returns (λ c κs. search needs) returns-2 (λ c κs. search needs) (λ c κs. search needs) returns-3 returns-4
     (λ c κs. search needs) returns-5 (λ c κs. search needs) returns-6 (λ c κs. search needs)
-    (λ c κs. (low (c .before), high (c .before), elevation (c .before))) earlier-of-requires clear-of-requires worked-requires returns-7)
+    (λ c κs. (begun (c .before) .pre, (low (c .before), high (c .before), elevation (c .before)))) earlier-of-requires clear-of-requires worked-requires returns-7)

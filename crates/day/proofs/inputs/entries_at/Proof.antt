@@ -18,22 +18,27 @@ entry-read entry t e = ap readBack e ∙ read (entry .in-range) t ∙ ap pos (en
 
 returns : tie.Need-returns
 returns c =
-    let bw = c .before .before in
-    let aw = bw .before in
-    let a1 = aw .before in
-    let albedo = a1 .before in
-    let row = albedo .before .day-row .ensures in
+    let p = c .before in
+    let bw = p .before in
+    let aw = bw .before .before .before in
+    let a1 = aw .before .before .before in
+    let albedo = a1 .before .before .before in
     λ i.
     record {
-      albedo = entry-read (row .albedo) tt (albedo .wide-entry .ensures) i;
-      a1 = entry-read (row .a1) tt (a1 .wide-entry2 .ensures) i;
-      aw = entry-read (row .aw) tt (aw .wide-entry3 .ensures) i;
-      bw = entry-read (row .bw) tt (bw .wide-entry4 .ensures) i;
-      p = entry-read (c .before .pressure .ensures) tt (c .wide-entry5 .ensures) i;
+      albedo = entry-read (albedo .before .albedo .ensures) tt (albedo .wide-entry .ensures) i;
+      a1 = entry-read (a1 .before .a1 .ensures) tt (a1 .wide-entry2 .ensures) i;
+      aw = entry-read (aw .before .aw .ensures) tt (aw .wide-entry3 .ensures) i;
+      bw = entry-read (bw .before .bw .ensures) tt (bw .wide-entry4 .ensures) i;
+      p = entry-read (p .pressure .ensures) tt (c .wide-entry5 .ensures) i;
     }
 
 pub entries-at-spec : {M : Type 1} → statement M
 entries-at-spec =
     tie.close
-    (tie.spec (λ c κs. search needs) (λ c. search needs) (λ c κs. search needs) (λ c. search needs) (λ c κs. search needs)
-    (λ c. search needs) (λ c κs. search needs) (λ c. search needs) (λ c κs. search needs) (λ c κs. search needs) (λ c κs. search needs) returns)
+    (tie.spec
+    (λ c. search needs) (λ c κs. search needs) (λ c κs. search needs)
+    (λ c. search needs) (λ c κs. search needs) (λ c κs. search needs)
+    (λ c. search needs) (λ c κs. search needs) (λ c κs. search needs)
+    (λ c. search needs) (λ c κs. search needs) (λ c κs. search needs)
+    (λ c κs. search needs) (λ c κs. search needs)
+    returns)

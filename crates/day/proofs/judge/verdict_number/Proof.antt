@@ -31,7 +31,7 @@ module _ (c : tie.Start) where
   earlier = let x = c .args in threeBefore (x .has-one) (x .one) (x .has-two) (x .two) (x .has-three) (x .three)
 
 -- whatever says the verdict says that of the day handed in
-judged-said : (c : tie.After-decide) (r : ℕ) → let s = c .before .before .before .before in saidBy r ≡ verdictSaid (c .decide .result)
+judged-said : (c : tie.After-judge) (r : ℕ) → let s = c .before .before .before .before in saidBy r ≡ verdictSaid (c .judge .result)
     → (saidBy r ≡ verdictSaid (judged (station s) (day s) (earlier s))) × FigureSaid (station s) (day s) (earlier s) r
 judged-said c r says =
     let three = c .before in
@@ -49,7 +49,7 @@ judged-said c r says =
       two = mean-is (x .has-two) (x .two) (fits .two) (two .mean-of2 .ensures) i;
       three = mean-is (x .has-three) (x .three) (fits .three) (three .mean-of3 .ensures) i;
     })
-    _ r (c .decide .ensures .0) (c .decide .ensures .1) says
+    _ r (c .judge .ensures .0) (c .judge .ensures .1) says
 
 returns : tie.Need-returns
 returns c =
