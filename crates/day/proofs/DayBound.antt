@@ -1,5 +1,5 @@
--- An answered day's figure is within the bound: that none of the refusals holds gives every range that `sheet-rounded` asks for. The theorem is
--- `judged-within-bound`. Assumes nothing.
+-- An answered day's figure is within the bound: that none of the refusals holds gives every range that `sheet-rounded` asks for. The theorems are
+-- `judged-within-proved`, at the sharper bound, and `judged-within-bound`, at the demanded one. Assumes nothing.
 use mathlib.Core.Path.{_≡_, refl, _∙_, ap}
 use mathlib.Core.Bool.{Bool, true, false, cond, _&&_}
 use mathlib.Core.List.{List, [], _∷_}
@@ -12,7 +12,7 @@ use lib.Signed.{leZ, _≤ℤ_, _<ℤ_}
 use Rattle.numbers.specs.Ranges.{InRange}
 use Rattle.numbers.specs.Ratios.{_over_}
 use Rattle.numbers.specs.Fractions.{ℚ, fromℤ, _/ℚ_, _*ℚ_, _≤ℚ_}
-use Rattle.numbers.proofs.Order.{<ℚ-ratio, <ℚ-≤ℚ-trans}
+use Rattle.numbers.proofs.Order.{≤ℚ-ratio, <ℚ-ratio, ≤ℚ-trans, <ℚ-≤ℚ-trans}
 use Rattle.numbers.proofs.Rounded.{Rounded, rounded-abs, of-whole, at-least}
 use Rattle.numbers.proofs.RoundedQuotient.{divisor-above}
 use Rattle.numbers.proofs.RangeArithmetic.{both}
@@ -26,14 +26,14 @@ use Rattle.day.specs.Equation.{value}
 use Rattle.day.specs.Equation as equation
 use Rattle.day.specs.Rules.{meanFault}
 use Rattle.day.specs.Judgement.{readingsOf, entriesOf, clearOf, withMean, meansOf, earlierOf, figureOf, holds, firstOf, inOrder, judged, Answered}
-use Rattle.day.specs.Bound.{inputsOf, WithinBound, SignedConstants, FigureOwed, JudgesWithinBound}
+use Rattle.day.specs.Bound.{inputsOf, Within, WithinBound, provedBound, SignedConstants, FigureOwed, JudgesWithinBound}
 use Rattle.day.specs.declared.Station.{Station}
 use Rattle.day.specs.declared.Day.{Day}
 use Rattle.day.specs.declared.Mean.{Mean}
 use Rattle.day.specs.declared.Mean.the-variants.{Present, Absent}
 use Rattle.day.specs.declared.Earlier.{Earlier}
 use Rattle.day.specs.declared.Refusal.{Refusal}
-use Rattle.day.specs.declared.Refusal.the-variants.{StationField, BadDate, OutOfRange, AboveClear}
+use Rattle.day.specs.declared.Refusal.the-variants.{StationField, BadDate, OutOfRange, OutOfOrder, AboveClear}
 use Rattle.day.specs.declared.Verdict.{Verdict}
 use Rattle.day.specs.declared.Verdict.the-variants.{Figure, Refused}
 use Rattle.day.proofs.Tests.{passed}
@@ -43,7 +43,7 @@ use Rattle.day.proofs.TemperatureBound.{e-rounded, e-low}
 use Rattle.day.proofs.CloudBound.{Q-rounded, C-low}
 use Rattle.day.proofs.SoilBound.{AllTemperatures, none as no-means, more}
 use Rattle.day.proofs.SheetBound.{IsTemperature, sheet-rounded}
-use Rattle.day.proofs.EntryBound.{day-entry, pressure-rounded, pressure-low}
+use Rattle.day.proofs.EntryBound.{day-entry, entry-low, pressure-rounded, pressure-low}
 
 -- ---- no refusal holds: the verdict is the figure
 
@@ -205,21 +205,36 @@ module _ (st : Station) (day : Day) (earlier : Earlier) (constants : SignedConst
 
   -- ---- the figure against the equation
 
-  pub within-bound : WithinBound st day earlier (figureOf st day earlier)
-  unfolding WithinBound value inputsOf readingsOf entriesOf earlierOf
-  within-bound α a1 aw bw P x hα ha1 haw hbw hP hx =
+  within-proved : Within provedBound st day earlier (figureOf st day earlier)
+  unfolding Within value inputsOf readingsOf entriesOf earlierOf
+  within-proved α a1 aw bw P x hα ha1 haw hbw hP hx =
       rounded-abs
       (of-whole figure-is
       (sheet-rounded (readingsOf day) (entriesOf st day)
       (temperature (readings-in .maximum)) (temperature (readings-in .minimum)) (temperature (readings-in .mean)) dewpoint-in
+      (passed-tests.minimum-mean st day earlier (none-holds OutOfOrder)) (passed-tests.dewpoint-maximum st day earlier (none-holds OutOfOrder))
       (radiation-in .0) (radiation-in .1) (wind-in .0) (wind-in .1)
       (meansOf earlier) means-in few-means (clearOf st day) C clear-rounded clear-low not-above-twice α a1 aw bw P
       (day-entry 230000000 350000000 (albedoAt (day .d)) α (35 over 100) (36 over 100) (entries-in .albedo) hα tt tt tt)
       (day-entry 260000000 360000000 (a1At (day .d)) a1 (36 over 100) (361 over 1000) (entries-in .a1) ha1 tt tt tt)
       (day-entry 400000000 1800000000 (awAt (day .d)) aw (18 over 10) (1801 over 1000) (entries-in .aw) haw tt tt tt)
       (day-entry 7000000 11000000 (bwAt (day .d)) bw (11 over 1000) (111 over 10000) (entries-in .bw) hbw tt tt tt)
+      (entry-low 230000000 350000000 (albedoAt (day .d)) billionths α (22 over 100) (entries-in .albedo) hα tt tt)
+      (entry-low 260000000 360000000 (a1At (day .d)) billionths a1 (25 over 100) (entries-in .a1) ha1 tt tt)
       (pressure-rounded (pressureAt (st .elevation)) P (entries-in .p) hP) (pressure-low (pressureAt (st .elevation)) P (entries-in .p) hP)
       x hx (root-of .0) (root-of .1)))
+
+  -- the demanded bound is the larger
+  pub within-bound : WithinBound st day earlier (figureOf st day earlier)
+  unfolding WithinBound Within
+  within-bound α a1 aw bw P x hα ha1 haw hbw hP hx =
+      ≤ℚ-trans (within-proved α a1 aw bw P x hα ha1 haw hbw hP hx) (≤ℚ-ratio (515 over 10000000) (6 over 100000) tt)
+
+-- the sharper bound, of a judge's own figures
+pub judged-within-proved : (st : Station) (day : Day) (earlier : Earlier) → SignedConstants st → Answered st day earlier →
+    (n : ℕ) × (judged st day earlier ≡ Figure n) × Within provedBound st day earlier n
+judged-within-proved st day earlier constants answered =
+    (figureOf st day earlier, answered-figure st day earlier answered, within-proved st day earlier constants answered)
 
 pub judged-within-bound : JudgesWithinBound judged
 unfolding JudgesWithinBound FigureOwed

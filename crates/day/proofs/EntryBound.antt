@@ -3,15 +3,14 @@ use mathlib.Core.Path.{_≡_, sym, _∙_, ap}
 use Prim.Native.Nat.{ℕ, _≤_}
 use lib.Dec.{T, le→leb}
 use lib.IntN.{ℤ, pos}
-use Rattle.numbers.specs.Solver.{_:+_, _:-_, _:*_, :-_, _:=_}
 use Rattle.numbers.specs.Ratios.{Ratio, _over_, _+ᴿ_, _*ᴿ_, -ᴿ_, nonnegᴿ, leᴿ}
 use Rattle.numbers.specs.Ranges.{from_to_, InRange}
-use Rattle.numbers.specs.Fractions.{ℚ, fraction, fromℤ, _/ℚ_, _+ℚ_, _*ℚ_, _≤ℚ_}
-use Rattle.numbers.proofs.FractionSolver.{ringℚ, _#_, fraction-sum, fraction-product}
-use Rattle.numbers.proofs.Order.{nonneg-add, nonneg-mul, nonneg-ratio, gap, from-gap, ≤ℚ-eq}
+use Rattle.numbers.specs.Fractions.{ℚ, fraction, _/ℚ_, _+ℚ_, _*ℚ_, _≤ℚ_}
+use Rattle.numbers.proofs.FractionSolver.{fraction-sum, fraction-product}
+use Rattle.numbers.proofs.Order.{nonneg-ratio, ≤ℚ-ratio, ≤ℚ-eq, ≤ℚ-trans, *ℚ-mono}
 use Rattle.numbers.proofs.WholeFractions.{fromℕ-mono}
 use Rattle.numbers.proofs.Bounds.{bounded-weaken}
-use Rattle.numbers.proofs.Near.{near-sym, near-weaken, near-bounded}
+use Rattle.numbers.proofs.Near.{near-sym, near-weaken, near-bounded, near-at-least}
 use Rattle.numbers.proofs.Rounded.{Rounded, wholeᴿ, weaken, in-range}
 use Rattle.tables.specs.Series.{HalfUnit}
 use Rattle.tables.specs.Tables.{billionth, tenthPascal, pressureRange}
@@ -28,6 +27,16 @@ half-unit-rounded a b r u y s range half hu low high =
       near = near-weaken (near-sym half) (≤ℚ-eq half-is);
     }
 
+-- how small the fraction can be
+pub entry-low : (a b r : ℕ) (u : Ratio) (y : ℚ) (l : Ratio) → InRange (from a to b) (pos r) → HalfUnit (fraction u) r y →
+    T (nonnegᴿ u) → T (leᴿ (l +ᴿ (1 over 2) *ᴿ u) (wholeᴿ (pos a) *ᴿ u)) → fraction l ≤ℚ y
+unfolding HalfUnit
+entry-low a b r u y l range half hu low =
+    near-at-least
+    (≤ℚ-trans (≤ℚ-eq (sym (fraction-sum l ((1 over 2) *ᴿ u) ∙ ap (λ (h : ℚ). fraction l +ℚ h) (fraction-product (1 over 2) u))))
+    (≤ℚ-trans (≤ℚ-ratio (l +ᴿ (1 over 2) *ᴿ u) (wholeᴿ (pos a) *ᴿ u) low) (≤ℚ-eq (fraction-product (wholeᴿ (pos a)) u))))
+    (*ℚ-mono (nonneg-ratio u hu) (fromℕ-mono (range .bounds .0))) half
+
 -- billionths
 pub day-entry : (a b r : ℕ) (y : ℚ) (s t : Ratio) → InRange (from a to b) (pos r) → HalfUnit billionth r y →
     T (leᴿ (-ᴿ s) (wholeᴿ (pos a) *ᴿ (1 over 1000000000))) → T (leᴿ (wholeᴿ (pos b) *ᴿ (1 over 1000000000)) s) → T (leᴿ (s +ᴿ (1 over 2) *ᴿ (1 over 1000000000)) t) →
@@ -40,7 +49,4 @@ module _ (r : ℕ) (P : ℚ) (range : InRange pressureRange (pos r)) (half : Hal
   pressure-rounded = weaken tt tt tt (half-unit-rounded 700000 1013000 r (1 over 10000) P (1013 over 10) range half tt tt tt)
 
   pub pressure-low : 6999 /ℚ 100 ≤ℚ P
-  unfolding HalfUnit
-  pressure-low =
-      from-gap (nonneg-add (nonneg-add (gap (half .low)) (nonneg-mul (gap (fromℕ-mono (range .bounds .0))) (nonneg-ratio (1 over 10000) tt))) (nonneg-ratio (995 over 100000) tt))
-      (ringℚ 2 (λ p r. p :- 6999 # 100 := p :- r :* 1 # 10000 :- :- (1 # 2 :* 1 # 10000) :+ (r :- 700000 # 1) :* 1 # 10000 :+ 995 # 100000) tt P (fromℤ (pos r)))
+  pressure-low = entry-low 700000 1013000 r (1 over 10000) P (6999 over 100) range half tt tt

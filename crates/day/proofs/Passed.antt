@@ -1,6 +1,6 @@
 -- What a station and a day that passed their tests are known to be: each number in its range, and so what the sheet is worked from. Assumes
 -- nothing.
-use mathlib.Core.Path.{_≡_, refl, subst}
+use mathlib.Core.Path.{_≡_, refl, sym, _∙_, ap, subst}
 use mathlib.Core.List.{List, [], _∷_}
 use mathlib.Core.Bool.{Bool, true, false, not, cond}
 use Prim.Native.Nat.{ℕ, _≤_, _%_}
@@ -9,18 +9,20 @@ use native.Mathlib.Omega.{arith}
 use borrow.Author.Tests.{ltb-false, lt-leb}
 use lib.Dec.{T, ltb, leb, leb→le, eqb}
 use lib.IntN.{ℤ, pos, negsuc}
+use lib.Signed.{ltZ, _≤ℤ_}
 use Rattle.numbers.specs.Ranges.{Range, minus_to_, Bounds, InRange, inRange}
+use Rattle.numbers.proofs.IntegerOrder.{leZ-is}
 use Rattle.numbers.proofs.RangeArithmetic.{inside, wider}
 use Rattle.sheet.specs.Quantities as quantities
 use Rattle.sheet.specs.Accepted.{ReadingsInRange, EntriesInRange}
 use Rattle.tables.proofs.ValueRanges.{albedo-in, a1-in, aw-in, bw-in, pressure-in}
 use Rattle.day.specs.Calendar.{yearLength, isDate}
-use Rattle.day.specs.Rules.{anyOf, stationFaults, isMissing, missingMarks, readingFaults, meanFault}
+use Rattle.day.specs.Rules.{anyOf, stationFaults, isMissing, missingMarks, readingFaults, meanFault, orderFaults}
 use Rattle.day.specs.Judgement.{readingsOf, entriesAt, holds}
 use Rattle.day.specs.declared.Station.{Station}
 use Rattle.day.specs.declared.Day.{Day}
 use Rattle.day.specs.declared.Earlier.{Earlier}
-use Rattle.day.specs.declared.Refusal.the-variants.{StationField, BadDate, OutOfRange}
+use Rattle.day.specs.declared.Refusal.the-variants.{StationField, BadDate, OutOfRange, OutOfOrder}
 use Rattle.day.proofs.Tests.{AllFalse, all-false, passed}
 
 -- ---- the station
@@ -100,6 +102,22 @@ module _ (st : Station) (day : Day) (earlier : Earlier) (accepted : holds OutOfR
         radiation = passed quantities.radiation (each .1 .1 .1 .1 .0);
         wind = passed quantities.wind (each .1 .1 .1 .1 .1 .0);
       }
+
+-- ---- their order
+
+module _ (st : Station) (day : Day) (earlier : Earlier) (accepted : holds OutOfOrder st day earlier ≡ false) where
+  order-passed : AllFalse (orderFaults (day .maximum) (day .minimum) (day .mean) (day .dewpoint))
+  unfolding holds
+  order-passed = all-false (orderFaults (day .maximum) (day .minimum) (day .mean) (day .dewpoint)) accepted
+
+  not-below : (x y : ℤ) → ltZ y x ≡ false → x ≤ℤ y
+  not-below x y e = record { le = subst T (sym (leZ-is y x ∙ ap not e)) tt }
+
+  pub minimum-mean : day .minimum ≤ℤ day .mean
+  minimum-mean = not-below (day .minimum) (day .mean) (order-passed .0)
+
+  pub dewpoint-maximum : day .dewpoint ≤ℤ day .maximum
+  dewpoint-maximum = not-below (day .dewpoint) (day .maximum) (order-passed .1 .1 .0)
 
 -- ---- the marks of missing readings
 

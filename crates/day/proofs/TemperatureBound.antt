@@ -1,6 +1,6 @@
 -- What the sheet makes of a temperature f in tenths °F against the equation at F = f/10: the vapour pressure, its slope, the latent heat and the
 -- fourth power of the absolute temperature; and how small the equation's own values can be. Assumes nothing.
-use mathlib.Core.Path.{_≡_, sym, _∙_, ap}
+use mathlib.Core.Path.{_≡_, sym, _∙_, ap, ap₂}
 use lib.Dec.{T}
 use lib.IntN.{ℤ, pos, negsuc, _+ℤ_, _-ℤ_, _*ℤ_, *ℤ-comm}
 use lib.Signed.{_≤ℤ_}
@@ -12,8 +12,9 @@ use Rattle.numbers.specs.Fractions.{ℚ, fraction, fromℤ, _/ℚ_, _+ℚ_, _-�
 use Rattle.numbers.proofs.FractionSolver.{ringℚ, _#_, fraction-product}
 use Rattle.numbers.proofs.Order.{NonNeg, nonneg-add, nonneg-mul, nonneg-eq, nonneg-ratio, gap, from-gap, ≤ℚ-ratio, ≤ℚ-eq, ≤ℚ-trans, *ℚ-at-least}
 use Rattle.numbers.proofs.WholeFractions.{fromℤ-mono}
+use Rattle.numbers.proofs.FractionPowers.{power-nonneg, power-mono}
 use Rattle.numbers.proofs.Inverse.{fraction-inverse}
-use Rattle.numbers.proofs.Bounds.{abs-nonneg}
+use Rattle.numbers.proofs.Bounds.{abs-nonneg, abs-is-nonneg}
 use Rattle.numbers.proofs.Quotients.{rounds-down}
 use Rattle.numbers.proofs.Rounded.{Rounded, wholeᴿ, weaken, in-unit, of-value, of-whole, in-range, literal, sum, difference, product, multiple, scaled, divided, portion}
 use Rattle.numbers.proofs.RoundedLimit.{absolute-rounded}
@@ -26,6 +27,10 @@ use Rattle.day.proofs.Units.{billionths}
 pub product-at-least : {x y : ℚ} (l m n : Ratio) → T (nonnegᴿ l) → T (nonnegᴿ m) → T (leᴿ n (l *ᴿ m)) → fraction l ≤ℚ x → fraction m ≤ℚ y → fraction n ≤ℚ x *ℚ y
 product-at-least l m n hl hm t p q =
     ≤ℚ-trans (≤ℚ-trans (≤ℚ-ratio n (l *ᴿ m) t) (≤ℚ-eq (fraction-product l m))) (*ℚ-at-least (nonneg-ratio l hl) (nonneg-ratio m hm) p q)
+
+-- what is at least a number that is not below 0
+pub nonneg-above : {x l : ℚ} → NonNeg l → l ≤ℚ x → NonNeg x
+nonneg-above {x} {l} n h = nonneg-eq (ringℚ 2 (λ x l. x := x :- l :+ l) tt x l) (nonneg-add (gap h) n)
 
 -- t as a polynomial
 pub t-is : (F : ℚ) → equation.t F ≡ (F -ℚ 32 /ℚ 1) *ℚ 10 /ℚ 18
@@ -99,7 +104,7 @@ module _ (f : ℤ) (lo : negsuc 93 ≤ℤ f) (hi : f ≤ℤ pos 1291) where
       (portion rounds-down 338639 100000 tt tt
       (sum (difference V8-rounded absolute-part) (literal (pos 1316000) billionths (1316000 over 1000000000) (1316000 over 1000000000) tt tt tt)))))
 
-  pub D-rounded : Rounded (sheet.D f) billionths (equation.Δ (tenths f)) (7402 over 10000) (4 over 1000000000)
+  pub D-rounded : Rounded (sheet.D f) billionths (equation.Δ (tenths f)) (7402 over 10000) (34 over 10000000000)
   unfolding sheet.D equation.Δ y
   D-rounded =
       of-value (ringℚ 1 (λ p. 1 # 5 :* p :- 116000 # 1000000000 := 2 # 10 :* p :- 116 # 1000000) tt (y ^ℚ 7))
@@ -187,6 +192,18 @@ module _ (f : ℤ) (lo : negsuc 93 ≤ℤ f) (hi : f ≤ℤ pos 1291) where
       ∙ ringℚ 2 (λ p f. 338639 # 100000 :* (p :- 19 # 1000000 :* (f :* 1 # 10 :+ 16 # 1) :+ 1316 # 1000000) :- 87 # 1000 := 338639 # 100000 :* (p :- 2726 # 100000 :+ 19 # 10000000 :* (1291 # 1 :- f)) :+ 433542049 # 1000000000000) tt
       (y ^ℚ 8) (fromℤ f))
 
+  -- 0.2y⁷ of the slope against y⁸ = y⁷y, with y at most 1.20531
+  pub e-high : equation.e (tenths f) ≤ℚ 2042 /ℚ 100 *ℚ equation.Δ (tenths f) +ℚ 69 /ℚ 10000
+  unfolding equation.e equation.Δ y
+  e-high =
+      from-gap
+      (nonneg-add
+      (nonneg-mul (power-nonneg (nonneg-above (nonneg-ratio (63746 over 100000) tt) y-low) 7)
+      (nonneg-add (nonneg-mul (nonneg-ratio (338639 over 100000) tt) (gap (U-rounded .size .high))) (nonneg-ratio (23502691 over 10000000000) tt)))
+      (nonneg-add (nonneg-mul (nonneg-ratio (6434141 over 100000000000) tt) (abs-is-nonneg (tenths f +ℚ 16 /ℚ 1))) (nonneg-ratio (1869769 over 25000000000) tt)))
+      (ringℚ 2 (λ y a. 2042 # 100 :* (2 # 10 :* y :^ 7 :- 116 # 1000000) :+ 69 # 10000 :- 338639 # 100000 :* (y :^ 8 :- 19 # 1000000 :* a :+ 1316 # 1000000) := y :^ 7 :* (338639 # 100000 :* (120531 # 100000 :- y) :+ 23502691 # 10000000000) :+ (6434141 # 100000000000 :* a :+ 1869769 # 25000000000)) tt
+      y (absℚ (tenths f +ℚ 16 /ℚ 1)))
+
   pub L-low : 23735 /ℚ 10000 ≤ℚ equation.L (tenths f)
   unfolding equation.L
   L-low =
@@ -200,3 +217,27 @@ module _ (f : ℤ) (lo : negsuc 93 ≤ℤ f) (hi : f ≤ℤ pos 1291) where
       from-gap (nonneg-add (nonneg-mul (nonneg-ratio (787 over 6000000) tt) (gap (fromℤ-mono lo))) (nonneg-ratio (697 over 1000000) tt))
       (ap (λ (t : ℚ). 2556 /ℚ 1000 -ℚ (2501 /ℚ 1000 -ℚ 2361 /ℚ 1000000 *ℚ t)) (t-is (tenths f))
       ∙ ringℚ 1 (λ f. 2556 # 1000 :- (2501 # 1000 :- 2361 # 1000000 :* ((f :* 1 # 10 :- 32 # 1) :* 10 # 18)) := 787 # 6000000 :* (f :- con (wholeᴿ (negsuc 93))) :+ 697 # 1000000) tt (fromℤ f))
+
+-- ---- two temperatures in order: e rises, but for the 0.000019 |F + 16|, which is less than 0.009 kPa over the whole range
+
+module _ (f h : ℤ) (f-lo : negsuc 93 ≤ℤ f) (f-hi : f ≤ℤ pos 1291) (h-lo : negsuc 93 ≤ℤ h) (h-hi : h ≤ℤ pos 1291) (rises : f ≤ℤ h) where
+  y-rises : y f f-lo f-hi ≤ℚ y h h-lo h-hi
+  y-rises =
+      from-gap (nonneg-mul (nonneg-ratio (41 over 100000) tt) (gap (fromℤ-mono rises)))
+      (ap₂ _-ℚ_ (y-is h h-lo h-hi) (y-is f f-lo f-hi)
+      ∙ ringℚ 2 (λ f h. 738 # 100000 :* ((h :* 1 # 10 :- 32 # 1) :* 10 # 18) :+ 8072 # 10000 :- (738 # 100000 :* ((f :* 1 # 10 :- 32 # 1) :* 10 # 18) :+ 8072 # 10000) := 41 # 100000 :* (h :- f)) tt
+      (fromℤ f) (fromℤ h))
+
+  pub e-rises : equation.e (tenths f) ≤ℚ equation.e (tenths h) +ℚ 9 /ℚ 1000
+  unfolding equation.e y
+  e-rises =
+      from-gap
+      (nonneg-add
+      (nonneg-mul (nonneg-ratio (338639 over 100000) tt)
+      (nonneg-add (gap (power-mono (nonneg-above (nonneg-ratio (63746 over 100000) tt) (y-low f f-lo f-hi)) y-rises 8))
+      (nonneg-mul (nonneg-ratio (19 over 10000000) tt) (nonneg-add (gap (fromℤ-mono h-hi)) (gap (fromℤ-mono f-lo))))))
+      (nonneg-ratio (17742943 over 200000000000) tt))
+      (ap₂ (λ (a b : ℚ). 338639 /ℚ 100000 *ℚ (y h h-lo h-hi ^ℚ 8 -ℚ 19 /ℚ 1000000 *ℚ a +ℚ 1316 /ℚ 1000000) +ℚ 9 /ℚ 1000 -ℚ 338639 /ℚ 100000 *ℚ (y f f-lo f-hi ^ℚ 8 -ℚ 19 /ℚ 1000000 *ℚ b +ℚ 1316 /ℚ 1000000))
+      (abs-nonneg (above-16 h h-lo h-hi)) (abs-nonneg (above-16 f f-lo f-hi))
+      ∙ ringℚ 4 (λ p q f h. 338639 # 100000 :* (q :- 19 # 1000000 :* (h :* 1 # 10 :+ 16 # 1) :+ 1316 # 1000000) :+ 9 # 1000 :- 338639 # 100000 :* (p :- 19 # 1000000 :* (f :* 1 # 10 :+ 16 # 1) :+ 1316 # 1000000) := 338639 # 100000 :* (q :- p :+ 19 # 10000000 :* (1291 # 1 :- h :+ (f :- con (wholeᴿ (negsuc 93))))) :+ 17742943 # 200000000000) tt
+      (y f f-lo f-hi ^ℚ 8) (y h h-lo h-hi ^ℚ 8) (fromℤ f) (fromℤ h))

@@ -12,7 +12,7 @@ use Rattle.numbers.specs.Fractions.{ℚ, fromℤ, _/ℚ_, _+ℚ_, _-ℚ_, _*ℚ
 use Rattle.numbers.proofs.FractionSolver.{ringℚ, _#_}
 use Rattle.numbers.proofs.Order.{NonNeg, nonneg-add, nonneg-mul, nonneg-ratio, nonneg-of, gap, from-gap, ≤ℚ-refl}
 use Rattle.numbers.proofs.WholeFractions.{fromℤ-mono}
-use Rattle.numbers.proofs.Bounds.{Bounded, bounded-ratio, bounded-eq, bounded-nonneg, bounded-sub}
+use Rattle.numbers.proofs.Bounds.{Bounded, bounded, bounded-ratio, bounded-eq, bounded-nonneg, bounded-sub}
 use Rattle.numbers.proofs.Quotients.{rounds-down, rounds-toward-zero}
 use Rattle.numbers.proofs.Rounded.{Rounded, weaken, in-unit, of-value, of-whole, sized, in-range, sum, difference, product, scaled, divided, portion}
 use Rattle.numbers.proofs.RoundedLimit.{limited-above}
@@ -20,7 +20,7 @@ use Rattle.sheet.specs.StepSheet as sheet
 use Rattle.day.specs.Equation as equation
 use Rattle.day.specs.Means.{tenths}
 use Rattle.day.proofs.Units.{billionths, tenMillionths}
-use Rattle.day.proofs.WeightsBound.{nonneg-above}
+use Rattle.day.proofs.TemperatureBound.{nonneg-above}
 use Rattle.day.proofs.RadiationBound.{half-is}
 
 -- a limit from above of a number that is not below 0
@@ -70,6 +70,19 @@ V-rounded {X = X} {N = N} {A = A} hx hn ha lx ln la =
   where
     above-zero : {x : ℚ} → 87 /ℚ 1000 ≤ℚ x → NonNeg x
     above-zero h = nonneg-above (nonneg-ratio (87 over 1000) tt) h
+
+-- how large the deficit is at a slope D of the mean: the minimum is no higher than the mean, whose vapour pressure is at most 20.42 D + 0.0069,
+-- and the dew point no higher than the maximum
+pub V-bounded : {X N A M D : ℚ} → X ≤ℚ 152 /ℚ 10 → A ≤ℚ 152 /ℚ 10 → 87 /ℚ 1000 ≤ℚ N → 87 /ℚ 1000 ≤ℚ A → NonNeg D →
+    N ≤ℚ M +ℚ 9 /ℚ 1000 → M ≤ℚ 2042 /ℚ 100 *ℚ D +ℚ 69 /ℚ 10000 → A ≤ℚ X +ℚ 9 /ℚ 1000 → Bounded ((X +ℚ N) ÷ℚ 2 /ℚ 1 -ℚ A) (76 /ℚ 10 +ℚ 1021 /ℚ 100 *ℚ D)
+V-bounded {X} {N} {A} {M} {D} hX hA lN lA nD hN hM hAX =
+    bounded-eq (ap (λ (h : ℚ). h -ℚ A) (half-is (X +ℚ N)))
+    (bounded
+    (nonneg-add (nonneg-mul (nonneg-ratio (1 over 2) tt) (nonneg-add (nonneg-add (gap hAX) (gap lN)) (gap hA)))
+    (nonneg-add (nonneg-mul (nonneg-ratio (1021 over 100) tt) nD) (nonneg-ratio (39 over 1000) tt)))
+    (ringℚ 4 (λ x n a d. (x :+ n) :* 1 # 2 :- a :+ (76 # 10 :+ 1021 # 100 :* d) := 1 # 2 :* (x :+ 9 # 1000 :- a :+ (n :- 87 # 1000) :+ (152 # 10 :- a)) :+ (1021 # 100 :* d :+ 39 # 1000)) tt X N A D)
+    (nonneg-add (nonneg-mul (nonneg-ratio (1 over 2) tt) (nonneg-add (nonneg-add (gap hN) (gap hM)) (gap hX))) (nonneg-add (gap lA) (nonneg-ratio (7905 over 100000) tt)))
+    (ringℚ 5 (λ x n a m d. 76 # 10 :+ 1021 # 100 :* d :- ((x :+ n) :* 1 # 2 :- a) := 1 # 2 :* (m :+ 9 # 1000 :- n :+ (2042 # 100 :* d :+ 69 # 10000 :- m) :+ (152 # 10 :- x)) :+ (a :- 87 # 1000 :+ 7905 # 100000)) tt X N A M D))
 
 pub T-rounded : {v wf : ℤ} {V′ W : ℚ} → Rounded v billionths V′ (152 over 10) (125 over 1000000000) → Rounded wf billionths W (45 over 10) (123 over 1000000000) →
     Rounded (sheet.T v wf) tenMillionths (643 /ℚ 100 *ℚ W *ℚ V′) (440 over 1) (196 over 10000000)

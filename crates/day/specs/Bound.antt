@@ -1,4 +1,5 @@
--- Demand 3 for a day handed in alone: an answered day gets a figure within 6/100,000 of an inch of the unrounded equation. Assumes nothing.
+-- Demand 3 for a day handed in alone: an answered day gets a figure within 6/100,000 of an inch of the unrounded equation. What is proved is
+-- sharper: 5.15/100,000. Assumes nothing.
 use mathlib.Core.List.{map}
 use mathlib.Core.Path.{_≡_}
 use Prim.Native.Nat.{ℕ}
@@ -47,10 +48,10 @@ inputsOf st day earlier α a1 aw bw P x =
       x = x;
     }
 
--- The figure n differs from the equation's value by at most 6/100,000 of an inch: for all fractions within half a unit of the entries at `d` and
--- E, ends included and all at once, and every x between two neighbouring multiples of 10⁻⁸ whose squares have the equation's own ea between them.
-unfoldable pub WithinBound : Station → Day → Earlier → ℕ → Type 0
-WithinBound st day earlier n =
+-- The figure n differs from the equation's value by at most so many inches: for all fractions within half a unit of the entries at `d` and E, ends
+-- included and all at once, and every x between two neighbouring multiples of 10⁻⁸ whose squares have the equation's own ea between them.
+unfoldable pub Within : ℚ → Station → Day → Earlier → ℕ → Type 0
+Within inches st day earlier n =
     (α a1 aw bw P x : ℚ) →
     HalfUnit billionth (albedoAt (day .d)) α →
     HalfUnit billionth (a1At (day .d)) a1 →
@@ -58,7 +59,15 @@ WithinBound st day earlier n =
     HalfUnit billionth (bwAt (day .d)) bw →
     HalfUnit tenthPascal (pressureAt (st .elevation)) P →
     RootOf (1 /ℚ 100000000) (equation.e (tenths (day .dewpoint))) x →
-    absℚ (fromℤ (pos n) *ℚ 1 /ℚ 10000 -ℚ value (inputsOf st day earlier α a1 aw bw P x)) ≤ℚ 6 /ℚ 100000
+    absℚ (fromℤ (pos n) *ℚ 1 /ℚ 10000 -ℚ value (inputsOf st day earlier α a1 aw bw P x)) ≤ℚ inches
+
+-- the bound that is demanded: 6/100,000 of an inch
+unfoldable pub WithinBound : Station → Day → Earlier → ℕ → Type 0
+WithinBound = Within (6 /ℚ 100000)
+
+-- the sharper one that is proved of every answered day
+abbrev pub provedBound : ℚ
+provedBound = 515 /ℚ 10000000
 
 -- c1 to c5 are signed numbers of two bytes, any of them
 pub record SignedConstants (st : Station) : Type 0 where

@@ -71,6 +71,12 @@ bounded-scale {x} {a} c n p =
     bounded (nonneg-mul n (above p)) (ringℚ 3 (λ c x a. c :* x :+ c :* a := c :* (x :+ a)) tt c x a) (nonneg-mul n (below p))
     (ringℚ 3 (λ c x a. c :* a :- c :* x := c :* (a :- x)) tt c x a)
 
+-- a mean of two, with weights w and 1 - w, is bounded as they are
+pub bounded-mean : {w x y a : ℚ} → NonNeg w → NonNeg (fromℤ (pos 1) -ℚ w) → Bounded x a → Bounded y a → Bounded (w *ℚ x +ℚ (fromℤ (pos 1) -ℚ w) *ℚ y) a
+bounded-mean {w} {a = a} nw nv p q =
+    bounded-weaken (bounded-add (bounded-scale w nw p) (bounded-scale (fromℤ (pos 1) -ℚ w) nv q))
+    (≤ℚ-eq (ringℚ 2 (λ w a. w :* a :+ (1 # 1 :- w) :* a := a) tt w a))
+
 -- y ≥ m > 0
 pub bounded-inverse : {y m : ℚ} → fromℤ (pos 0) <ℚ m → m ≤ℚ y → Bounded (inverse y) (inverse m)
 bounded-inverse hm hy = bounded-nonneg (nonneg-inverse-of (<ℚ-≤ℚ-trans hm hy)) (inverse-at-most hm hy)

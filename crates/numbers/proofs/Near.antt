@@ -7,8 +7,8 @@ use Rattle.numbers.specs.Solver.{_:+_, _:-_, _:*_, :-_, _:=_}
 use Rattle.numbers.specs.Ratios.{_over_}
 use Rattle.numbers.specs.Fractions.{ℚ, fromℤ, _+ℚ_, _*ℚ_, -ℚ_, _-ℚ_, inverse, _÷ℚ_, nonneg, _≤ℚ_, _<ℚ_, absℚ, at-leastℚ, at-mostℚ, Near}
 use Rattle.numbers.proofs.FractionSolver.{ringℚ, from-multipleℚ, _#_}
-use Rattle.numbers.proofs.Order.{NonNeg, nonneg-add, nonneg-negate, nonneg-ratio, gap, from-gap, ≤ℚ-trans, <ℚ-≤ℚ-trans}
-use Rattle.numbers.proofs.Inverse.{*ℚ-inverse}
+use Rattle.numbers.proofs.Order.{NonNeg, nonneg-add, nonneg-mul, nonneg-negate, nonneg-ratio, gap, from-gap, ≤ℚ-eq, ≤ℚ-trans, <ℚ-≤ℚ-trans}
+use Rattle.numbers.proofs.Inverse.{*ℚ-inverse, nonneg-inverse-of}
 use Rattle.numbers.proofs.Bounds.{Bounded, above, below, bounded, bounded-add, bounded-neg, bounded-mul, bounded-scale, bounded-weaken, bounded-eq, bounded-inverse, bounded-abs, abs-bounded, bound-nonneg}
 
 -- the error, as a bounded number
@@ -69,6 +69,39 @@ near-quotient {x} {X} {y} {Y} {m} {c} {δ} {ε} hm hy hY q h k =
         (from-multipleℚ (-ℚ (X *ℚ inverse y)) (*ℚ-inverse (<ℚ-≤ℚ-trans hm hY))
         (ringℚ 6 (λ x X y Y i I. x :* i :- X :* I :- (x :- X :+ :- (X :* I :* (y :- Y))) :* i :- X :* I :* (y :* i :- 1 # 1) := :- (X :* i) :* (Y :* I :- 1 # 1)) tt
         x X y Y (inverse y) (inverse Y)))
+
+-- a part of a sum, X / (X + Y) with X and Y not below 0, times a number k:
+-- x/(x + y) - X/(X + Y) = (Y (x - X) - X (y - Y)) / ((x + y)(X + Y))
+pub part-error : {x X y Y k a c δ ε : ℚ} → NonNeg X → NonNeg Y → fromℤ (pos 0) <ℚ x +ℚ y → fromℤ (pos 0) <ℚ X +ℚ Y → Near x X δ → Near y Y ε → Bounded k a →
+    (Y *ℚ δ +ℚ X *ℚ ε) *ℚ a ≤ℚ c *ℚ ((x +ℚ y) *ℚ (X +ℚ Y)) → Bounded ((x ÷ℚ (x +ℚ y) -ℚ X ÷ℚ (X +ℚ Y)) *ℚ k) c
+part-error {x} {X} {y} {Y} {k} {a} {c} nX nY hs hS h j hk enough =
+    bounded-weaken
+    (bounded-eq split
+    (bounded-scale (inverse (x +ℚ y) *ℚ inverse (X +ℚ Y)) (nonneg-mul (nonneg-inverse-of hs) (nonneg-inverse-of hS))
+    (bounded-weaken (bounded-mul (bounded-add (bounded-scale Y nY (error h)) (bounded-neg (bounded-scale X nX (error j)))) hk) enough)))
+    (≤ℚ-eq whole)
+  where
+    split : (x ÷ℚ (x +ℚ y) -ℚ X ÷ℚ (X +ℚ Y)) *ℚ k ≡ inverse (x +ℚ y) *ℚ inverse (X +ℚ Y) *ℚ ((Y *ℚ (x -ℚ X) +ℚ -ℚ (X *ℚ (y -ℚ Y))) *ℚ k)
+    split =
+        from-multipleℚ (X *ℚ inverse (X +ℚ Y) *ℚ k) (*ℚ-inverse hs)
+        (from-multipleℚ (-ℚ (x *ℚ inverse (x +ℚ y) *ℚ k)) (*ℚ-inverse hS)
+        (ringℚ 7 (λ x X y Y k i I. (x :* i :- X :* I) :* k :- i :* I :* ((Y :* (x :- X) :+ :- (X :* (y :- Y))) :* k) :- X :* I :* k :* ((x :+ y) :* i :- 1 # 1) := :- (x :* i :* k) :* ((X :+ Y) :* I :- 1 # 1)) tt
+        x X y Y k (inverse (x +ℚ y)) (inverse (X +ℚ Y))))
+
+    whole : inverse (x +ℚ y) *ℚ inverse (X +ℚ Y) *ℚ (c *ℚ ((x +ℚ y) *ℚ (X +ℚ Y))) ≡ c
+    whole =
+        from-multipleℚ (c *ℚ ((X +ℚ Y) *ℚ inverse (X +ℚ Y))) (*ℚ-inverse hs)
+        (from-multipleℚ c (*ℚ-inverse hS)
+        (ringℚ 5 (λ s S c i I. i :* I :* (c :* (s :* S)) :- c :- c :* (S :* I) :* (s :* i :- 1 # 1) := c :* (S :* I :- 1 # 1)) tt
+        (x +ℚ y) (X +ℚ Y) c (inverse (x +ℚ y)) (inverse (X +ℚ Y))))
+
+-- a mean with weights w and 1 - w: its error
+pub near-mean : (w W x X y Y : ℚ) {c : ℚ} → Bounded (W *ℚ (x -ℚ X) +ℚ (fromℤ (pos 1) -ℚ W) *ℚ (y -ℚ Y) +ℚ (w -ℚ W) *ℚ (x -ℚ y)) c →
+    Near (w *ℚ x +ℚ (fromℤ (pos 1) -ℚ w) *ℚ y) (W *ℚ X +ℚ (fromℤ (pos 1) -ℚ W) *ℚ Y) c
+near-mean w W x X y Y =
+    near
+    (ringℚ 6 (λ w W x X y Y. w :* x :+ (1 # 1 :- w) :* y :- (W :* X :+ (1 # 1 :- W) :* Y) := W :* (x :- X) :+ (1 # 1 :- W) :* (y :- Y) :+ (w :- W) :* (x :- y)) tt
+    w W x X y Y)
 
 -- ---- bounds of what is near
 

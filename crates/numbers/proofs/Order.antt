@@ -88,6 +88,18 @@ nonneg-negate x t =
       test = implies-elim (not (nonneg x)) (nonneg (-ℚ x)) (test-ind (λ x. implies (not (nonneg x)) (nonneg (-ℚ x))) negate-ratio x) t;
     }
 
+pub nonneg-eq : {x y : ℚ} → x ≡ y → NonNeg y → NonNeg x
+nonneg-eq p h = record { test = subst (λ z. T (nonneg z)) (sym p) (h .test) }
+
+pub nonneg-square : (x : ℚ) → NonNeg (x *ℚ x)
+nonneg-square x = by-test (nonneg x) refl
+  where
+    by-test : (b : Bool) → nonneg x ≡ b → NonNeg (x *ℚ x)
+    by-test true e = let n : NonNeg x = record { test = subst T (sym e) tt } in nonneg-mul n n
+    by-test false e =
+        let n = nonneg-negate x (subst (λ (b : Bool). T (not b)) (sym e) tt) in
+        nonneg-eq (ringℚ 1 (λ x. x :* x := :- x :* :- x) tt x) (nonneg-mul n n)
+
 -- ---- the gap y - x of x ≤ y
 
 pub gap : {x y : ℚ} → x ≤ℚ y → NonNeg (y -ℚ x)
@@ -95,9 +107,6 @@ gap h = record { test = h .le }
 
 pub from-gap : {x y e : ℚ} → NonNeg e → y -ℚ x ≡ e → x ≤ℚ y
 from-gap h p = record { le = subst (λ z. T (nonneg z)) (sym p) (h .test) }
-
-pub nonneg-eq : {x y : ℚ} → x ≡ y → NonNeg y → NonNeg x
-nonneg-eq p h = record { test = subst (λ z. T (nonneg z)) (sym p) (h .test) }
 
 pub nonneg-of : {x : ℚ} → fromℤ (pos 0) ≤ℚ x → NonNeg x
 nonneg-of {x} h = nonneg-eq (ringℚ 1 (λ x. x := x :- 0 # 1) tt x) (gap h)

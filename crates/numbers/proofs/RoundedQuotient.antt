@@ -1,13 +1,13 @@
 -- The error calculus: a quotient of two rounded numbers, whose divisor is bounded below. The lemmas are `quotient-rounded` and `plain-quotient`.
 -- Assumes nothing.
-use mathlib.Core.Path.{_≡_, refl, sym, _∙_, ap, ap₂}
+use mathlib.Core.Path.{_≡_, sym, _∙_, ap, ap₂}
 use Prim.Native.Nat.{zero, suc, zero-le, suc-le-suc}
 use lib.Dec.{T, lt→ltb}
 use lib.IntN.{ℤ, pos, negsuc}
 use lib.Signed.{_<ℤ_}
 use Rattle.numbers.specs.Solver.{_:+_, _:-_, _:*_, :-_, _:=_}
 use Rattle.numbers.specs.Ratios.{Ratio, _+ᴿ_, _*ᴿ_, -ᴿ_, inverseᴿ, nonnegᴿ, eqᴿ, posᴿ}
-use Rattle.numbers.specs.Fractions.{ℚ, fraction, fromℤ, _+ℚ_, _*ℚ_, -ℚ_, _-ℚ_, inverse, _÷ℚ_, nonneg, _≤ℚ_, _<ℚ_}
+use Rattle.numbers.specs.Fractions.{ℚ, fraction, fromℤ, _+ℚ_, _*ℚ_, -ℚ_, _-ℚ_, inverse, _÷ℚ_, nonneg, _≤ℚ_, _<ℚ_, Near}
 use Rattle.numbers.specs.Rounding.{Rounds}
 use Rattle.numbers.proofs.FractionSolver.{ringℚ, from-multipleℚ, _#_, fraction-sum, fraction-product, fraction-negation}
 use Rattle.numbers.proofs.Order.{nonneg-ratio, from-gap, ≡-ratio, <ℚ-ratio, ≤ℚ-eq, ≤ℚ-trans, <ℚ-≤ℚ, <ℚ-≤ℚ-trans, <ℚ-irrefl, *ℚ-mono}
@@ -79,20 +79,26 @@ module _ {quotient : ℤ → ℤ → ℤ} {e : Ratio} {z w : ℤ} {u v : Ratio} 
       (ringℚ 7 (λ r z i u w v j. r :* (z :* i) :- z :* u :* j :- :- (r :* z :* i) :* (w :* v :* j :- 1 # 1) :- r :* z :* v :* j :* (w :* i :- 1 # 1) := z :* j :* (r :* v :- u)) tt
       (fraction r) (fromℤ z) (inverse (fromℤ w)) (fraction u) (fromℤ w) (fraction v) (inverse (fromℤ w *ℚ fraction v)))))
 
+  -- the whole quotient, against that of the rounded numbers
+  pub quotient-near : Near (fromℤ (quotient z w) *ℚ fraction r) ((fromℤ z *ℚ fraction u) ÷ℚ (fromℤ w *ℚ fraction v)) (fraction (r *ᴿ e))
+  unfolding y
+  quotient-near =
+      near-weaken
+      (near-eq (ringℚ 2 (λ q r. q :* r := r :* q) tt (fromℤ (quotient z w)) (fraction r)) (sym units)
+      (near-scale (fraction r) (nonneg-ratio r hr) (rounds z w w-above)))
+      (≤ℚ-eq (sym (fraction-product r e)))
+
   pub quotient-rounded : (c : Ratio) → Bounded (X ÷ℚ Y) (fraction c) → Rounded (quotient z w) r (X ÷ℚ Y) c (quotientError e r l c δ ε)
   unfolding m y
   quotient-rounded c hc =
       record {
         size = hc;
         near = near-weaken
-            (near-trans
-            (near-eq (ringℚ 2 (λ q r. q :* r := r :* q) tt (fromℤ (quotient z w)) (fraction r)) refl
-            (near-scale (fraction r) (nonneg-ratio r hr) (rounds z w w-above)))
-            (near-eq units refl (near-quotient m-above m-y (≤ℚ-trans l-m lY) hc (p .near) (q .near))))
+            (near-trans quotient-near (near-quotient m-above m-y (≤ℚ-trans l-m lY) hc (p .near) (q .near)))
             (≤ℚ-eq
             (sym
             (fraction-sum (r *ᴿ e) ((δ +ᴿ c *ᴿ ε) *ᴿ inverseᴿ (l +ᴿ -ᴿ ε))
-            ∙ ap₂ _+ℚ_ (fraction-product r e)
+            ∙ ap (λ (t : ℚ). fraction (r *ᴿ e) +ℚ t)
             (fraction-product (δ +ᴿ c *ᴿ ε) (inverseᴿ (l +ᴿ -ᴿ ε))
             ∙ ap₂ _*ℚ_ (fraction-sum δ (c *ᴿ ε) ∙ ap (λ (t : ℚ). fraction δ +ℚ t) (fraction-product c ε)) (sym (fraction-inverse (l +ᴿ -ᴿ ε)))))));
       }

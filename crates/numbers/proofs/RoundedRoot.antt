@@ -17,6 +17,11 @@ use Rattle.numbers.proofs.Near.{error, near-weaken}
 use Rattle.numbers.proofs.Roots.{square-cancel, near-root}
 use Rattle.numbers.proofs.Rounded.{Rounded, at-least}
 
+pub root-nonneg : {unit A x : ℚ} → NonNeg unit → RootOf unit A x → NonNeg x
+root-nonneg {unit} {x = x} nu hx =
+    nonneg-eq (ringℚ 2 (λ x k. x := x :- k :+ k) tt x (fromℤ (pos (hx .multiple)) *ℚ unit))
+    (nonneg-add (gap (hx .low)) (nonneg-mul (nonneg-ℕ (hx .multiple)) nu))
+
 -- n has units u², and its exact value A is at least l; m² ≤ l - δ, and the value is at most c²; e is at least δ / 2m
 module _ {n : ℕ} {A : ℚ} {w a δ : Ratio} (u l m c e : Ratio)
     (hu : T (nonnegᴿ u)) (hm : T (nonnegᴿ m)) (hc : T (nonnegᴿ c)) (he : T (nonnegᴿ e)) (uw : T (eqᴿ (u *ᴿ u) w))
@@ -45,7 +50,7 @@ module _ {n : ℕ} {A : ℚ} {w a δ : Ratio} (u l m c e : Ratio)
   pub root-rounded : (r : ℕ) (x : ℚ) → WholeRoot n r → RootOf (fraction u) A x → Rounded (pos r) u x (c +ᴿ u) (u +ᴿ u +ᴿ e)
   root-rounded r x hr hx =
       record {
-        size = bounded-weaken (bounded-nonneg nx (≤ℚ-trans (hx .high) (+ℚ-mono k-c (≤ℚ-refl (fraction u))))) (≤ℚ-eq (sym (fraction-sum c u)));
+        size = bounded-weaken (bounded-nonneg (root-nonneg nu hx) (≤ℚ-trans (hx .high) (+ℚ-mono k-c (≤ℚ-refl (fraction u))))) (≤ℚ-eq (sym (fraction-sum c u)));
         near = near-weaken
             (near-root ns nk nu (nonneg-ratio e he)
             (square-cancel (nonneg-add ns nu) (≤ℚ-trans (≤ℚ-eq (sym (fraction-product m m))) (≤ℚ-trans m-n n-next)))
@@ -64,9 +69,6 @@ module _ {n : ℕ} {A : ℚ} {w a δ : Ratio} (u l m c e : Ratio)
 
       ns : NonNeg (fromℤ (pos r) *ℚ fraction u)
       ns = nonneg-mul (nonneg-ℕ r) nu
-
-      nx : NonNeg x
-      nx = nonneg-eq (ringℚ 2 (λ x k. x := x :- k :+ k) tt x k) (nonneg-add (gap (hx .low)) nk)
 
       square : (y : ℚ) → y ^ℚ 2 ≡ y *ℚ y
       square y = ringℚ 1 (λ y. y :^ 2 := y :* y) tt y
