@@ -36,6 +36,7 @@ use Rattle.day.specs.declared.Refusal.{Refusal}
 use Rattle.day.specs.declared.Refusal.the-variants.{StationField, BadDate, OutOfRange, OutOfOrder, AboveClear}
 use Rattle.day.specs.declared.Verdict.{Verdict}
 use Rattle.day.specs.declared.Verdict.the-variants.{Figure, Refused}
+use Rattle.day.proofs.Standings.{answered-figure}
 use Rattle.day.proofs.Tests.{passed}
 use Rattle.day.proofs.Passed as passed-tests
 use Rattle.day.proofs.Units.{billionths}
@@ -44,18 +45,6 @@ use Rattle.day.proofs.CloudBound.{Q-rounded, C-low}
 use Rattle.day.proofs.SoilBound.{AllTemperatures, none as no-means, more}
 use Rattle.day.proofs.SheetBound.{IsTemperature, sheet-rounded}
 use Rattle.day.proofs.EntryBound.{day-entry, entry-low, pressure-rounded, pressure-low}
-
--- ---- no refusal holds: the verdict is the figure
-
-none-first : (rs : List Refusal) (held : Refusal → Bool) (verdict : Verdict) → ((r : Refusal) → held r ≡ false) → firstOf rs held verdict ≡ verdict
-none-first [] held verdict h = refl
-none-first (r ∷ rs) held verdict h =
-    ap (λ (b : Bool). cond b (Refused r) (firstOf rs held verdict)) (h r) ∙ none-first rs held verdict h
-
-pub answered-figure : (st : Station) (day : Day) (earlier : Earlier) → Answered st day earlier → judged st day earlier ≡ Figure (figureOf st day earlier)
-unfolding judged Answered
-answered-figure st day earlier answered =
-    none-first inOrder (λ r. holds r st day earlier) (Figure (figureOf st day earlier)) (λ r. answered r)
 
 -- ---- ranges: as two inequalities, of the latent heat, and of the clear-day sum at any constants of two bytes
 

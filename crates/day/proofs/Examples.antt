@@ -30,7 +30,8 @@ use Rattle.day.specs.declared.Refusal.{Refusal}
 use Rattle.day.specs.declared.Refusal.the-variants.{StationField, BadDate, Missing, OutOfRange, OutOfOrder, AboveClear, SumBelowOne}
 use Rattle.day.specs.declared.Verdict.the-variants.{Figure}
 use Rattle.day.proofs.Tests.{AllFalse, all-false}
-use Rattle.day.proofs.DayBound.{answered-figure, within-bound}
+use Rattle.day.proofs.DayBound.{within-bound}
+use Rattle.day.proofs.Standings.{answered-figure}
 
 -- ---- the marked values
 
@@ -126,18 +127,18 @@ module _ (st : Station) (day : Day) (earlier : Earlier) (t : Entries) (entries-a
       ∷ holds OutOfRange st day earlier
       ∷ holds OutOfOrder st day earlier
       ∷ holds AboveClear st day earlier
-      ∷ sheet.sumBelowOne (readingsOf day) t
+      ∷ sheet.sumBelowOne (day .mean) (t .p)
       ∷ []
 
   by-refusal : AllFalse tests → (r : Refusal) → holds r st day earlier ≡ false
-  unfolding holds
+  unfolding holds entriesOf
   by-refusal h StationField = h .0
   by-refusal h BadDate = h .1 .0
   by-refusal h Missing = h .1 .1 .0
   by-refusal h OutOfRange = h .1 .1 .1 .0
   by-refusal h OutOfOrder = h .1 .1 .1 .1 .0
   by-refusal h AboveClear = h .1 .1 .1 .1 .1 .0
-  by-refusal h SumBelowOne = ap (sheet.sumBelowOne (readingsOf day)) entries-are ∙ h .1 .1 .1 .1 .1 .1 .0
+  by-refusal h SumBelowOne = ap (λ (t : Entries). sheet.sumBelowOne (day .mean) (t .p)) entries-are ∙ h .1 .1 .1 .1 .1 .1 .0
 
   answered-by : anyOf tests ≡ false → Answered st day earlier
   unfolding Answered

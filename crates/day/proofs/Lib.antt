@@ -1,6 +1,7 @@
 -- The lemmas that belong to no one function.
 pub mod Tests
 pub mod Passed
+pub mod Standings
 pub mod Units
 pub mod TemperatureBound
 pub mod WeightsBound
@@ -13,4 +14,3 @@ pub mod SheetBound
 pub mod EntryBound
 pub mod DayBound
 pub mod Examples
-pub mod Told

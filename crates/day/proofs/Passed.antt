@@ -6,18 +6,16 @@ use mathlib.Core.Bool.{Bool, true, false, not, cond}
 use Prim.Native.Nat.{ℕ, _≤_, _%_}
 use native.Mathlib.Nat.{le-trans}
 use native.Mathlib.Omega.{arith}
-use borrow.Author.Tests.{ltb-false, lt-leb}
+use borrow.Author.Tests.{ltb-false}
 use lib.Dec.{T, ltb, leb, leb→le, eqb}
-use lib.IntN.{ℤ, pos, negsuc}
+use lib.IntN.{ℤ}
 use lib.Signed.{ltZ, _≤ℤ_}
-use Rattle.numbers.specs.Ranges.{Range, minus_to_, Bounds, InRange, inRange}
 use Rattle.numbers.proofs.IntegerOrder.{leZ-is}
-use Rattle.numbers.proofs.RangeArithmetic.{inside, wider}
 use Rattle.sheet.specs.Quantities as quantities
 use Rattle.sheet.specs.Accepted.{ReadingsInRange, EntriesInRange}
 use Rattle.tables.proofs.ValueRanges.{albedo-in, a1-in, aw-in, bw-in, pressure-in}
 use Rattle.day.specs.Calendar.{yearLength, isDate}
-use Rattle.day.specs.Rules.{anyOf, stationFaults, isMissing, missingMarks, readingFaults, meanFault, orderFaults}
+use Rattle.day.specs.Rules.{anyOf, badStation, stationFaults, readingFaults, meanFault, orderFaults}
 use Rattle.day.specs.Judgement.{readingsOf, entriesAt, holds}
 use Rattle.day.specs.declared.Station.{Station}
 use Rattle.day.specs.declared.Day.{Day}
@@ -45,13 +43,13 @@ module _ (st : Station) (day : Day) (earlier : Earlier) (accepted : holds Statio
 
 year-length-at-most : (y : ℕ) → yearLength y ≤ 366
 unfolding yearLength
-year-length-at-most y = chosen (eqb (y % 400) 0) (eqb (y % 100) 0) (eqb (y % 4) 0)
+year-length-at-most y = chosen (eqb (y % 4) 0) (eqb (y % 100) 0) (eqb (y % 400) 0)
   where
-    chosen : (a b c : Bool) → cond a 366 (cond b 365 (cond c 366 365)) ≤ 366
-    chosen true b c = omega arith
-    chosen false true c = omega arith
-    chosen false false true = omega arith
-    chosen false false false = omega arith
+    chosen : (a b c : Bool) → cond a (cond b (cond c 366 365) 366) 365 ≤ 366
+    chosen true true true = omega arith
+    chosen true true false = omega arith
+    chosen true false c = omega arith
+    chosen false b c = omega arith
 
 module _ (st : Station) (day : Day) (earlier : Earlier) (accepted : holds BadDate st day earlier ≡ false) where
   day-passed : (ltb (day .d) 1 ≡ false) × T (leb (day .d) (yearLength (day .year)))
@@ -118,33 +116,6 @@ module _ (st : Station) (day : Day) (earlier : Earlier) (accepted : holds OutOfO
 
   pub dewpoint-maximum : day .dewpoint ≤ℤ day .maximum
   dewpoint-maximum = not-below (day .dewpoint) (day .maximum) (order-passed .1 .1 .0)
-
--- ---- the marks of missing readings
-
--- all that sixteen bits hold but the mark
-abbrev unmarked : Range
-unmarked = minus 32_767 to 32_767
-
-above-mark : (z : ℤ) → Bounds unmarked z → isMissing z ≡ false
-above-mark (pos n) h = refl
-above-mark (negsuc n) h = lt-leb 32_767 n h
-
-in-range-unmarked : (r : Range) (z : ℤ) → T (inside r unmarked) → not (inRange r z) ≡ false → isMissing z ≡ false
-in-range-unmarked r z t e = above-mark z (wider r unmarked z t (passed r e .bounds))
-
--- no reading of a day is missing that is in its range
-pub none-missing : (day : Day) → anyOf (readingFaults (day .maximum) (day .minimum) (day .mean) (day .dewpoint) (day .radiation) (day .wind)) ≡ false →
-    anyOf (missingMarks (day .maximum) (day .minimum) (day .mean) (day .dewpoint) (day .radiation) (day .wind)) ≡ false
-none-missing day e =
-    let each = all-false (readingFaults (day .maximum) (day .minimum) (day .mean) (day .dewpoint) (day .radiation) (day .wind)) e in
-    rw (
-      in-range-unmarked quantities.temperature (day .maximum) tt (each .0),
-      in-range-unmarked quantities.temperature (day .minimum) tt (each .1 .0),
-      in-range-unmarked quantities.temperature (day .mean) tt (each .1 .1 .0),
-      in-range-unmarked quantities.temperature (day .dewpoint) tt (each .1 .1 .1 .0),
-      in-range-unmarked quantities.radiation (day .radiation) tt (each .1 .1 .1 .1 .0),
-      in-range-unmarked quantities.wind (day .wind) tt (each .1 .1 .1 .1 .1 .0),
-    )
 
 -- ---- the tables' entries
 

@@ -5,7 +5,7 @@ use lib.Dec.{eqb, ltb, leb}
 
 -- 366 days in a leap year: one that 4 divides, but of those that 100 divides only the ones that 400 divides
 unfoldable pub yearLength : ℕ → ℕ
-yearLength y = cond (eqb (y % 400) 0) 366 (cond (eqb (y % 100) 0) 365 (cond (eqb (y % 4) 0) 366 365))
+yearLength y = cond (eqb (y % 4) 0) (cond (eqb (y % 100) 0) (cond (eqb (y % 400) 0) 366 365) 366) 365
 
 -- Year: 1950 to 2099. `d`: 1 to 365, or 366 in a Gregorian leap year.
 unfoldable pub isDate : ℕ → ℕ → Bool

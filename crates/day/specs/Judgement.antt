@@ -1,4 +1,4 @@
--- One day judged: what the step sheet is worked from, when each refusal holds, and the verdict. Assumes nothing.
+-- One day judged: what the step sheet is worked from, when each refusal holds, which one does first, and the verdict. Assumes nothing.
 use mathlib.Core.Bool.{Bool, false, not, cond}
 use mathlib.Core.List.{List, [], _∷_}
 use mathlib.Core.Path.{_≡_}
@@ -11,7 +11,7 @@ use Rattle.sheet.specs.declared.Readings.{Readings}
 use Rattle.sheet.specs.declared.Entries.{Entries}
 use Rattle.sheet.specs.declared.Earlier.{Earlier as SheetEarlier}
 use Rattle.day.specs.Calendar.{isDate}
-use Rattle.day.specs.Rules.{anyOf, stationFaults, missingMarks, readingFaults, meanFault, orderFaults}
+use Rattle.day.specs.Rules.{anyOf, badStation, missingMarks, readingFaults, meanFault, orderFaults}
 use Rattle.day.specs.Means.{sumOf}
 use Rattle.day.specs.declared.Station.{Station}
 use Rattle.day.specs.declared.Day.{Day}
@@ -20,6 +20,8 @@ use Rattle.day.specs.declared.Mean.the-variants.{Present, Absent}
 use Rattle.day.specs.declared.Earlier.{Earlier}
 use Rattle.day.specs.declared.Refusal.{Refusal}
 use Rattle.day.specs.declared.Refusal.the-variants.{StationField, BadDate, Missing, OutOfRange, OutOfOrder, AboveClear, SumBelowOne}
+use Rattle.day.specs.declared.Standing.{Standing}
+use Rattle.day.specs.declared.Standing.the-variants as standing
 use Rattle.day.specs.declared.Verdict.{Verdict}
 use Rattle.day.specs.declared.Verdict.the-variants.{Figure, Refused}
 
@@ -81,33 +83,47 @@ figureOf st x earlier = natAbs (sheet.figure (readingsOf x) (entriesOf st x) (ea
 
 -- ---- when each refusal holds
 
-unfoldable pub holds : Refusal → Station → Day → Earlier → Bool
-holds StationField st x earlier =
-    anyOf (stationFaults (st .code .first) (st .code .second) (st .code .third) (st .code .fourth) (st .minimum) (st .elevation))
-holds BadDate st x earlier = not (isDate (x .year) (x .d))
-holds Missing st x earlier = anyOf (missingMarks (x .maximum) (x .minimum) (x .mean) (x .dewpoint) (x .radiation) (x .wind))
-holds OutOfRange st x earlier =
+-- 8, of the six readings and of the earlier means
+abbrev pub outOfRange : Day → Earlier → Bool
+outOfRange x earlier =
     anyOf
     (anyOf (readingFaults (x .maximum) (x .minimum) (x .mean) (x .dewpoint) (x .radiation) (x .wind))
     ∷ meanFault (earlier .one)
     ∷ meanFault (earlier .two)
     ∷ meanFault (earlier .three)
     ∷ [])
+
+unfoldable pub holds : Refusal → Station → Day → Earlier → Bool
+holds StationField st x earlier = badStation st
+holds BadDate st x earlier = not (isDate (x .year) (x .d))
+holds Missing st x earlier = anyOf (missingMarks (x .maximum) (x .minimum) (x .mean) (x .dewpoint) (x .radiation) (x .wind))
+holds OutOfRange st x earlier = outOfRange x earlier
 holds OutOfOrder st x earlier = anyOf (orderFaults (x .maximum) (x .minimum) (x .mean) (x .dewpoint))
 holds AboveClear st x earlier = sheet.aboveTwiceClear (x .radiation) (clearOf st x)
-holds SumBelowOne st x earlier = sheet.sumBelowOne (readingsOf x) (entriesOf st x)
-
--- "It returns its figure or the first of 3, 6 (calendar only), 7, 8, 9, 10, 11, in that order."
-abbrev pub inOrder : List Refusal
-inOrder = StationField ∷ BadDate ∷ Missing ∷ OutOfRange ∷ OutOfOrder ∷ AboveClear ∷ SumBelowOne ∷ []
-
-abbrev pub firstOf : List Refusal → (Refusal → Bool) → Verdict → Verdict
-firstOf [] held verdict = verdict
-firstOf (r ∷ rs) held verdict = cond (held r) (Refused r) (firstOf rs held verdict)
-
-unfoldable pub judged : Station → Day → Earlier → Verdict
-judged st x earlier = firstOf inOrder (λ r. holds r st x earlier) (Figure (figureOf st x earlier))
+holds SumBelowOne st x earlier = sheet.sumBelowOne (x .mean) (pos (pressureAt (st .elevation)))
 
 -- Answered: none of the refusals holds
 unfoldable pub Answered : Station → Day → Earlier → Type 0
 Answered st x earlier = (r : Refusal) → holds r st x earlier ≡ false
+
+-- ---- the verdict
+
+-- the first of some refusals that holds, or that none does
+abbrev pub firstOf : List Refusal → (Refusal → Bool) → Standing
+firstOf [] held = standing.Answered
+firstOf (r ∷ rs) held = cond (held r) (standing.Refused r) (firstOf rs held)
+
+-- "the first of 3, 6 (calendar only), 7, 8, 9, 10, 11, in that order"
+abbrev pub inOrder : List Refusal
+inOrder = StationField ∷ BadDate ∷ Missing ∷ OutOfRange ∷ OutOfOrder ∷ AboveClear ∷ SumBelowOne ∷ []
+
+unfoldable pub standingOf : Station → Day → Earlier → Standing
+standingOf st x earlier = firstOf inOrder (λ r. holds r st x earlier)
+
+-- "It returns its figure or the first of .."
+abbrev pub verdictWith : Standing → ℕ → Verdict
+verdictWith (standing.Refused r) n = Refused r
+verdictWith standing.Answered n = Figure n
+
+unfoldable pub judged : Station → Day → Earlier → Verdict
+judged st x earlier = verdictWith (standingOf st x earlier) (figureOf st x earlier)

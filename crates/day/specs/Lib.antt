@@ -5,5 +5,3 @@ pub mod Means
 pub mod Judgement
 pub mod Equation
 pub mod Bound
-pub mod HandedIn
-pub mod Told

@@ -9,6 +9,7 @@ use Rattle.numbers.specs.Ranges.{inRange}
 use Rattle.sheet.specs.Quantities as quantities
 use Rattle.day.specs.declared.Mean.{Mean}
 use Rattle.day.specs.declared.Mean.the-variants.{Present, Absent}
+use Rattle.day.specs.declared.Station.{Station}
 use Rattle.day.specs.declared.Refusal.{Refusal}
 use Rattle.day.specs.declared.Refusal.the-variants.{StationField, BadDate, Missing, OutOfRange, OutOfOrder, AboveClear, SumBelowOne}
 
@@ -41,6 +42,9 @@ stationFaults first second third fourth minimum elevation =
     ∷ ltb 200 minimum
     ∷ ltb 3000 elevation
     ∷ []
+
+abbrev pub badStation : Station → Bool
+badStation st = anyOf (stationFaults (st .code .first) (st .code .second) (st .code .third) (st .code .fourth) (st .minimum) (st .elevation))
 
 -- 7: any of the six readings missing. The value -32,768, the least of the readings' type, means missing.
 abbrev pub isMissing : ℤ → Bool

@@ -1,17 +1,21 @@
 // The Gregorian calendar of the years 1950 to 2099.
 ghost use mathlib.Core.Path.{_≡_};
-ghost use Prim.Native.Nat.{_≤_};
 ghost use Rattle.day.specs.Calendar.{yearLength, isDate};
 
-// The number of days of a year of these: every fourth is a leap year, 2000 too.
+// The number of days of a year: 366 where 4 divides it, but of the years that 100 divides only those that 400 divides.
 fn year_length(year: u16) -> u16
-    requires { ⌜ (1950 ≤ year) × (year ≤ 2099) ⌝ }
     ensures { λ r. ⌜ r ≡ yearLength year ⌝ }
 {
-    if year % 4 == 0 {
+    if year % 4 != 0 {
+        return 365;
+    }
+    if year % 100 != 0 {
         return 366;
     }
-    365
+    if year % 400 != 0 {
+        return 365;
+    }
+    366
 }
 
 // Whether the calendar has day d of the year.

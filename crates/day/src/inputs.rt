@@ -5,6 +5,7 @@ ghost use Prim.Native.Nat.{_≤_};
 ghost use lib.IntN.{pos};
 ghost use Rattle.numbers.specs.Ranges.{InRange, from_to_};
 ghost use Rattle.tables.specs.Tables.{DayTables, PressureTable};
+ghost use Rattle.tables.specs.Values.{pressureAt};
 ghost use Rattle.sheet.specs.Quantities as quantities;
 ghost use Rattle.sheet.specs.Accepted.{EarlierInRange};
 ghost use Rattle.day.specs.Rules.{meanFault};
@@ -17,7 +18,7 @@ use sheet::Entries;
 use sheet::Readings;
 
 // A reading or a constant of two bytes, signed, as the sheet takes it.
-fn wide(x: i16) -> i64
+pub fn wide(x: i16) -> i64
     ensures { λ r. ⌜ (r ≡ x) × InRange quantities.signedWord r ⌝ }
 {
     x as i64
@@ -51,6 +52,14 @@ pub fn readings_of(day: Day) -> Readings
     }
 }
 
+// The pressure p at the elevation.
+pub fn pressure_at(pressures: &[u32; 3001], elevation: u16) -> i64
+    requires { ⌜ PressureTable (now pressures) × (elevation ≤ 3000) ⌝ }
+    ensures { λ r. ⌜ (r ≡ pos (pressureAt elevation)) × InRange quantities.pressure r ⌝ }
+{
+    wide_entry(tables::pressure(pressures, elevation as usize))
+}
+
 // The tables' entries at the day d and at the elevation.
 pub fn entries_at(
     days: &[[u32; 366]; 4],
@@ -68,7 +77,7 @@ pub fn entries_at(
         a1: wide_entry(tables::a1(&days[1], day)),
         aw: wide_entry(tables::aw(&days[2], day)),
         bw: wide_entry(tables::bw(&days[3], day)),
-        p: wide_entry(tables::pressure(pressures, elevation as usize)),
+        p: pressure_at(pressures, elevation),
     }
 }
 

@@ -3,10 +3,10 @@ ghost use mathlib.Core.Path.{_≡_};
 ghost use Rattle.day.specs.Rules.{numberOf};
 
 pub mod calendar;
-pub mod decide;
 mod inputs;
 pub mod judge;
 pub mod readings;
+pub mod refusals;
 pub mod rules;
 
 // A station's four capitals.
@@ -63,6 +63,12 @@ pub enum Refusal {
     OutOfOrder,
     AboveClear,
     SumBelowOne,
+}
+
+// What refuses a day, or that nothing does.
+pub enum Standing {
+    Refused(Refusal),
+    Answered,
 }
 
 // The figure in 0.0001 inch, or the refusal.

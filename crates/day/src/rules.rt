@@ -17,7 +17,7 @@ fn not_capital(x: u8) -> bool
 }
 
 // Refusal 3: a letter of the code that is no capital, the clear-day minimum or the elevation out of range.
-pub fn bad_station(
+pub fn station_field_out_of_range(
     first: u8,
     second: u8,
     third: u8,

@@ -5,7 +5,7 @@ use Prim.Native.Nat.{ℕ, _<_}
 use native.Mathlib.Omega.{arith}
 use borrow.Author.Tests.{ne-eqb}
 use Rattle.day.proofs.Tests.{first-there}
-use Rattle.day.specs.Told.{refused, said}
+use Rattle.exports.specs.Told.{refused, said}
 use Rattle.log.proofs.OutcomeSize.{Small, outcome-small}
 use Rattle.log.specs.Log.{outcomeOf}
 use Rattle.log.specs.declared.Outcome.the-variants.{Written, Refused}

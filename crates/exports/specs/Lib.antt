@@ -1,2 +1,3 @@
 -- What the contracts cite.
-pub mod Returned
+pub mod HandedIn
+pub mod Told

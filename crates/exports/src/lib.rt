@@ -1,15 +1,36 @@
 // The judge of days and the reader of logs for programs in other languages, over numbers and byte slices alone. fuortwem.h declares them.
 ghost use mathlib.Core.Path.{_≡_};
 ghost use lib.ListN.{length};
-ghost use Rattle.day.specs.HandedIn.{stationOf, dayOf, threeBefore};
 ghost use Rattle.day.specs.Judgement.{judged};
-ghost use Rattle.day.specs.Told.{saidBy, verdictSaid, FigureSaid};
 ghost use Rattle.log.specs.Demand.{FiguresOwed};
 ghost use Rattle.log.specs.Log.{outcomeOf, bufferAfter};
-ghost use Rattle.exports.specs.Returned.{outcomeSaid};
-use day::judge::packed;
-use day::judge::verdict_number;
+ghost use Rattle.exports.specs.HandedIn.{stationOf, dayOf, meanOf, threeBefore};
+ghost use Rattle.exports.specs.Told.{said, saidBy, verdictSaid, outcomeSaid, FigureSaid};
+use day::Code;
+use day::Day;
+use day::Earlier;
+use day::Mean;
+use day::Station;
+use day::Verdict;
+use day::judge::judge;
 use log::Outcome;
+
+// A refusal's number, 0 for none, in the high half, and a value in the low half.
+fn packed(number: u32, value: u32) -> u64
+    ensures { λ r. ⌜ saidBy r ≡ said number value ⌝ }
+{
+    (number as u64) * 4_294_967_296 + (value as u64)
+}
+
+// An earlier mean, unless its flag is 0. The flag is a number, so that each value that a caller can pass has a meaning.
+fn mean_of(flag: u8, tenths: i16) -> Mean
+    ensures { λ r. ⌜ r ≡ meanOf flag tenths ⌝ }
+{
+    if flag == 0 {
+        return Mean::Absent;
+    }
+    Mean::Present(tenths)
+}
 
 // A day handed in alone. The high half of the result is the refusal's number, 0 for none; the low half is then the figure.
 #[no_mangle]
@@ -43,18 +64,23 @@ pub extern "C" fn fuortwem_judge(
     ensures { λ r. ⌜ saidBy r ≡ verdictSaid (judged (stationOf first second third fourth c1 c2 c3 c4 c5 «clear_minimum» elevation) (dayOf year d maximum minimum mean dewpoint radiation wind) (threeBefore «has_one» one «has_two» two «has_three» three)) ⌝ }
     ensures { λ r. ⌜ FigureSaid (stationOf first second third fourth c1 c2 c3 c4 c5 «clear_minimum» elevation) (dayOf year d maximum minimum mean dewpoint radiation wind) (threeBefore «has_one» one «has_two» two «has_three» three) r ⌝ }
 {
-    verdict_number(
+    let code = Code {
         first,
         second,
         third,
         fourth,
+    };
+    let station = Station {
+        code,
         c1,
         c2,
         c3,
         c4,
         c5,
-        clear_minimum,
+        minimum: clear_minimum,
         elevation,
+    };
+    let day = Day {
         year,
         d,
         maximum,
@@ -63,13 +89,16 @@ pub extern "C" fn fuortwem_judge(
         dewpoint,
         radiation,
         wind,
-        has_one,
-        one,
-        has_two,
-        two,
-        has_three,
-        three,
-    )
+    };
+    let earlier = Earlier {
+        one: mean_of(has_one, one),
+        two: mean_of(has_two, two),
+        three: mean_of(has_three, three),
+    };
+    match judge(station, day, earlier) {
+        Verdict::Figure(n) => packed(0, n),
+        Verdict::Refused(why) => packed(why.number(), 0),
+    }
 }
 
 // A log read to its end or refused. The high half of the result is the refusal's number, 0 for none; the low half is the length written, the

@@ -7,7 +7,7 @@ use Prim.Native.Nat.{ℕ}
 use lib.IntN.{pos}
 use lib.ListN.{take, drop}
 use Rattle.day.specs.Calendar.{yearLength, isDate}
-use Rattle.day.specs.Judgement.{holds, judged, Answered}
+use Rattle.day.specs.Judgement.{holds, standingOf, judged, Answered}
 use Rattle.day.specs.declared.Earlier.{Earlier}
 use Rattle.day.specs.declared.Mean.the-variants.{Present, Absent}
 use Rattle.day.specs.declared.Verdict.{Verdict}
@@ -34,7 +34,7 @@ answered = record { at = third; others = λ r t. days .0 .answered r }
 -- days 10 and 11 lack the wind
 lacking : (judged (stationAt sample 1) (dayAt sample 20) (record { one = Absent; two = Absent; three = Absent }) ≡ Refused Missing)
     × (judged (stationAt sample 1) (dayAt sample 37) (record { one = Present (pos 200); two = Absent; three = Absent }) ≡ Refused Missing)
-unfolding judged holds stationAt dayAt wordAt signedOf signedAt isDate yearLength
+unfolding judged standingOf holds stationAt dayAt wordAt signedOf signedAt isDate yearLength
 lacking = (refl, refl)
 
 -- a buffer of 34 bytes
@@ -90,7 +90,7 @@ year-end =
 
 lacking-too : (judged (stationAt twoBlocks 1) (dayAt twoBlocks 20) (record { one = Absent; two = Absent; three = Absent }) ≡ Refused Missing)
     × (judged (stationAt twoBlocks 1) (dayAt twoBlocks 37) (record { one = Present (pos 200); two = Absent; three = Absent }) ≡ Refused Missing)
-unfolding judged holds stationAt dayAt wordAt signedOf signedAt isDate yearLength
+unfolding judged standingOf holds stationAt dayAt wordAt signedOf signedAt isDate yearLength
 lacking-too = (refl, refl)
 
 abbrev room : List ℕ

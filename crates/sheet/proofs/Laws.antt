@@ -1,5 +1,5 @@
 -- Laws of the sheet's lines that its code rests on: the ranges that do not follow step by step, and the soil heat by its cases. Assumes nothing.
-use mathlib.Core.Path.{_≡_, _∙_, ap}
+use mathlib.Core.Path.{_≡_, refl}
 use mathlib.Core.Bool.{false}
 use Prim.Native.Nat.{ℕ, zero, suc, _+_, _*_, _/_, _≤_, _<_, zero-le}
 use native.Mathlib.Nat.{div-le-of-le-mul}
@@ -8,7 +8,6 @@ use lib.IntN.{ℤ, pos, negsuc, natAbs, _*ℤ_, _-ℤ_}
 use borrow.Author.Tests.{ltb-false}
 use Rattle.numbers.specs.Whole.{_÷0_, wholeRoot, WholeRoot}
 use Rattle.numbers.specs.Ranges.{InRange, from_to_}
-use Rattle.numbers.proofs.Quotients.{shared-factor}
 use Rattle.numbers.proofs.WholeRoots.{root-is}
 use Rattle.sheet.specs.Quantities as quantities
 use Rattle.sheet.specs.StepSheet.{w1, aboveTwiceClear, ρ, soilHeat}
@@ -43,15 +42,8 @@ pub soil-none : (m z : ℤ) {k : ℤ} → k ≡ pos 0 → pos 0 ≡ soilHeat m k
 unfolding soilHeat
 soil-none m z e = rw e
 
--- t k = 6, so that t times the change over 54 is the change over 9k
-pub soil-some : (m z : ℤ) {t k : ℤ} → InRange (from 2 to 6) t → InRange (from 1 to 3) k → t *ℤ k ≡ pos 6 →
-    t *ℤ (pos 1_885_000 *ℤ (k *ℤ m -ℤ z)) ÷0 pos 54 ≡ soilHeat m k z
+pub soil-some : (m z : ℤ) {k : ℤ} → InRange (from 1 to 3) k → pos 1_885_000 *ℤ (k *ℤ m -ℤ z) ÷0 (pos 9 *ℤ k) ≡ soilHeat m k z
 unfolding soilHeat
-soil-some m z {t = pos t} {k = pos (suc k)} p q e =
-    let six : t * suc k ≡ 6 = ap natAbs e in
-    let whole : 54 ≡ t * (9 * suc k) = omega (arith, six) in
-    ap (λ (w : ℕ). pos t *ℤ (pos 1_885_000 *ℤ (pos (suc k) *ℤ m -ℤ z)) ÷0 pos w) whole
-    ∙ shared-factor (omega (arith, p .bounds .0)) (pos 1_885_000 *ℤ (pos (suc k) *ℤ m -ℤ z)) (9 * suc k)
-soil-some m z {t = pos t} {k = pos zero} p q e = absurd (omega (arith, q .bounds .0))
-soil-some m z {t = pos t} {k = negsuc k} p q e = absurd (q .bounds)
-soil-some m z {t = negsuc t} p q e = absurd (p .bounds)
+soil-some m z {k = pos (suc k)} p = refl
+soil-some m z {k = pos zero} p = absurd (omega (arith, p .bounds .0))
+soil-some m z {k = negsuc k} p = absurd (p .bounds)

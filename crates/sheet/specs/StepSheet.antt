@@ -59,6 +59,10 @@ w1 D g = pos 1_000_000_000 *ℤ D ÷↓ (D +ℤ g)
 unfoldable pub w2 : ℤ → ℤ → ℤ
 w2 D g = pos 1_000_000_000 -ℤ w1 D g
 
+-- refusal 11: "D + g of the sheet below 1", at the mean and the pressure
+unfoldable pub sumBelowOne : ℤ → ℤ → Bool
+sumBelowOne m p = ltZ (D m +ℤ g p (M m)) (pos 1)
+
 -- ---- Clear-day Q = 10⁹c1 + 10⁶c2·d + 10⁵c3·d² + 10³c4·d³ + c5·d⁴. Office: if below 10⁹ × minimum, that is Q. Refusal 10: 10⁸s > 2Q.
 
 -- 10⁻⁹ cal/cm²/d
@@ -170,10 +174,6 @@ heat x t earlier q =
 
 unfoldable pub drying : Readings → Entries → ℤ
 drying x t = T («V» (e (x .maximum)) (e (x .minimum)) (e (x .dewpoint))) (Wf (t .aw) (t .bw) (countedWind (x .wind)))
-
--- refusal 11: D + g below 1
-unfoldable pub sumBelowOne : Readings → Entries → Bool
-sumBelowOne x t = ltZ (D (x .mean) +ℤ g (t .p) (M (x .mean))) (pos 1)
 
 unfoldable pub figure : Readings → Entries → Earlier → ℤ → ℤ
 figure x t earlier q =

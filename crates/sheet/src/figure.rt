@@ -29,13 +29,11 @@ pub fn rounded(a: i64, heat: i64) -> i64
     numbers::quotient(2 * (23_622 * a) + whole, 2 * whole)
 }
 
-// Refusal 11.
-pub fn sum_below_one(x: Readings, t: Entries) -> bool
-    requires { ⌜ ReadingsInRange x × EntriesInRange t ⌝ }
-    ensures { λ r. ⌜ r ≡ sheet.sumBelowOne x t ⌝ }
+// Refusal 11, at the mean and the pressure.
+pub fn sum_below_one(m: i64, p: i64) -> bool
+    requires { ⌜ InRange quantities.temperature m × InRange quantities.pressure p ⌝ }
+    ensures { λ r. ⌜ r ≡ sheet.sumBelowOne m p ⌝ }
 {
-    let m = x.mean;
-    let p = t.p;
     let d = crate::temperature::slope(m);
     let heat = crate::temperature::latent_heat(m);
     let g = crate::weights::psychrometric(p, heat);

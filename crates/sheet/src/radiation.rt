@@ -74,22 +74,7 @@ pub fn net_radiation(albedo: i64, s: i64, rb: i64) -> i64
     numbers::quotient((1_000_000_000 - albedo) * (41_868 * s), 1_000_000_000) - rb
 }
 
-// 6/k, of the number of earlier means k.
-fn times(k: i64) -> i64
-    requires { ⌜ InRange (from 1 to 3) k ⌝ }
-    ensures { λ r. ⌜ (r *ℤ k ≡ pos 6) × InRange (from 2 to 6) r ⌝ }
-{
-    if k == 1 {
-        return 6;
-    }
-    if k == 2 {
-        return 3;
-    }
-    2
-}
-
-// The soil heat, of the mean m and the earlier means: how many, k, and their sum, z. A change over 9k is 6/k times it over 54: one divisor for
-// every k.
+// The soil heat, of the mean m and the earlier means: how many, k, and their sum, z.
 pub fn soil_heat(m: i64, k: i64, z: i64) -> i64
     requires { ⌜ InRange quantities.temperature m × InRange quantities.earlierCount k × InRange quantities.earlierSum z ⌝ }
     ensures { λ r. ⌜ (r ≡ sheet.soilHeat m k z) × InRange quantities.soilHeat r ⌝ }
@@ -97,9 +82,7 @@ pub fn soil_heat(m: i64, k: i64, z: i64) -> i64
     if k == 0 {
         return 0;
     }
-    let change = 1_885_000 * (k * m - z);
-    let factor = times(k);
-    numbers::toward_zero(factor * change, 54)
+    numbers::toward_zero(1_885_000 * (k * m - z), 9 * k)
 }
 
 // H.

@@ -1,7 +1,7 @@
 -- `exports::fuortwem_read_log` meets its contract: no length or offset needs more than the low half. Assumes nothing.
 use mathlib.Core.Path.{sym, ap, _∙_}
 use borrow.Author.Needs.{needs}
-use Rattle.exports.specs.Returned.{outcomeSaid}
+use Rattle.exports.specs.Told.{outcomeSaid}
 use Rattle.exports.proofs.Returned.{written-small, refused-small, refused-said}
 use Rattle.exports.proofs.fuortwem_read_log.Statement.{statement}
 use Rattle.exports.proofs.fuortwem_read_log.Tie as tie

@@ -8,7 +8,7 @@ use Rattle.numbers.specs.Ranges.{Range}
 use Rattle.numbers.proofs.RangeArithmetic.{fits-i64}
 use Rattle.numbers.proofs.Reflection.{readBack}
 use Rattle.tables.specs.Tables.{Entry}
-use Rattle.sheet.proofs.Values.{read}
+use Rattle.sheet.proofs.Values.{read, given-back}
 use Rattle.day.proofs.inputs.entries_at.Statement.{statement}
 use Rattle.day.proofs.inputs.entries_at.Tie as tie
 
@@ -18,8 +18,7 @@ entry-read entry t e = ap readBack e ∙ read (entry .in-range) t ∙ ap pos (en
 
 returns : tie.Need-returns
 returns c =
-    let p = c .before in
-    let bw = p .before in
+    let bw = c .before in
     let aw = bw .before .before .before in
     let a1 = aw .before .before .before in
     let albedo = a1 .before .before .before in
@@ -29,7 +28,7 @@ returns c =
       a1 = entry-read (a1 .before .a1 .ensures) tt (a1 .wide-entry2 .ensures) i;
       aw = entry-read (aw .before .aw .ensures) tt (aw .wide-entry3 .ensures) i;
       bw = entry-read (bw .before .bw .ensures) tt (bw .wide-entry4 .ensures) i;
-      p = entry-read (p .pressure .ensures) tt (c .wide-entry5 .ensures) i;
+      p = given-back (c .pressure-at .ensures) tt i;
     }
 
 pub entries-at-spec : {M : Type 1} → statement M
@@ -40,5 +39,5 @@ entries-at-spec =
     (λ c. search needs) (λ c κs. search needs) (λ c κs. search needs)
     (λ c. search needs) (λ c κs. search needs) (λ c κs. search needs)
     (λ c. search needs) (λ c κs. search needs) (λ c κs. search needs)
-    (λ c κs. search needs) (λ c κs. search needs)
+    (λ c κs. search needs)
     returns)

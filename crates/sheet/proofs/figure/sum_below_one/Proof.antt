@@ -20,12 +20,12 @@ unfolding sumBelowOne
 returns c =
     let latent = c .before in
     let slope = latent .before in
-    let s = slope .before .before .before in
-    let m = read (s .pre .0 .mean) tt in
+    let s = slope .before in
+    let m = read (s .pre .0) tt in
     ap (λ (z : ℤ). ltZ z (pos 1))
     (equal (given c) (arg 0 +ᵐ arg 1) tt
     ∙ ap₂ _+ℤ_ (slope .slope .ensures .0 ∙ ap D m)
-    (c .psychrometric .ensures .0 ∙ ap₂ g (read (s .pre .1 .p) tt) (given-back (latent .latent-heat .ensures) tt ∙ ap M m)))
+    (c .psychrometric .ensures .0 ∙ ap₂ g (read (s .pre .1) tt) (given-back (latent .latent-heat .ensures) tt ∙ ap M m)))
 
 pub sum-below-one-spec : {M : Type 1} → statement M
 sum-below-one-spec =

@@ -1,0 +1,84 @@
+-- What a day's standing tells: a day that stands answered is one that no refusal holds of, and the other way round; and the refusals asked in two
+-- parts are the refusals asked in a row. Assumes nothing.
+use mathlib.Core.Path.{_≡_, refl, sym, _∙_, ap, subst}
+use mathlib.Core.Bool.{Bool, true, false, cond}
+use mathlib.Core.List.{List, [], _∷_, _++_}
+use lib.Dec.{T}
+use Rattle.day.specs.Judgement.{holds, Answered, firstOf, inOrder, standingOf, verdictWith, judged, figureOf}
+use Rattle.day.specs.declared.Station.{Station}
+use Rattle.day.specs.declared.Day.{Day}
+use Rattle.day.specs.declared.Earlier.{Earlier}
+use Rattle.day.specs.declared.Refusal.{Refusal}
+use Rattle.day.specs.declared.Refusal.the-variants.{StationField, BadDate, Missing, OutOfRange, OutOfOrder, AboveClear, SumBelowOne}
+use Rattle.day.specs.declared.Standing.{Standing}
+use Rattle.day.specs.declared.Standing.the-variants as standing
+use Rattle.day.specs.declared.Verdict.the-variants.{Figure}
+
+-- ---- asked in two parts
+
+abbrev pub orElse : Standing → Standing → Standing
+orElse (standing.Refused r) s = standing.Refused r
+orElse standing.Answered s = s
+
+pub first-then : (rs ss : List Refusal) (held : Refusal → Bool) → firstOf (rs ++ ss) held ≡ orElse (firstOf rs held) (firstOf ss held)
+first-then [] ss held = refl
+first-then (r ∷ rs) ss held = by (held r) (firstOf rs held) (firstOf ss held) (first-then rs ss held)
+  where
+    by : (b : Bool) {s : Standing} (t u : Standing) → s ≡ orElse t u → cond b (standing.Refused r) s ≡ orElse (cond b (standing.Refused r) t) u
+    by true t u e = refl
+    by false t u e = e
+
+-- ---- none holds
+
+abbrev isAnswered : Standing → Bool
+isAnswered (standing.Refused r) = false
+isAnswered standing.Answered = true
+
+-- none of the row holds
+abbrev pub NoneOf : List Refusal → (Refusal → Bool) → Type 0
+NoneOf [] held = Unit {0}
+NoneOf (r ∷ rs) held = (held r ≡ false) × NoneOf rs held
+
+pub none-of : (rs : List Refusal) (held : Refusal → Bool) → firstOf rs held ≡ standing.Answered → NoneOf rs held
+none-of [] held e = tt
+none-of (r ∷ rs) held e = let both = by (held r) refl e in (both .0, none-of rs held (both .1))
+  where
+    by : (b : Bool) → held r ≡ b → {s : Standing} → cond b (standing.Refused r) s ≡ standing.Answered → (held r ≡ false) × (s ≡ standing.Answered)
+    by true p q = absurd (subst T (sym (ap isAnswered q)) tt)
+    by false p q = (p, q)
+
+none-first : (rs : List Refusal) (held : Refusal → Bool) → ((r : Refusal) → held r ≡ false) → firstOf rs held ≡ standing.Answered
+none-first [] held h = refl
+none-first (r ∷ rs) held h = ap (λ (b : Bool). cond b (standing.Refused r) (firstOf rs held)) (h r) ∙ none-first rs held h
+
+module _ (st : Station) (day : Day) (earlier : Earlier) where
+  -- what is told before the sheet, and else by it
+  pub stands : {s t : Standing} → s ≡ firstOf (StationField ∷ BadDate ∷ Missing ∷ OutOfRange ∷ OutOfOrder ∷ []) (λ r. holds r st day earlier) →
+      t ≡ firstOf (AboveClear ∷ SumBelowOne ∷ []) (λ r. holds r st day earlier) → orElse s t ≡ standingOf st day earlier
+  unfolding standingOf
+  stands p q =
+      (λ i. orElse (p i) (q i))
+      ∙ sym (first-then (StationField ∷ BadDate ∷ Missing ∷ OutOfRange ∷ OutOfOrder ∷ []) (AboveClear ∷ SumBelowOne ∷ []) (λ r. holds r st day earlier))
+
+  pub stands-refused : {r : Refusal} →
+      standing.Refused r ≡ firstOf (StationField ∷ BadDate ∷ Missing ∷ OutOfRange ∷ OutOfOrder ∷ []) (λ r. holds r st day earlier) →
+      standing.Refused r ≡ standingOf st day earlier
+  stands-refused p = stands p refl
+
+  pub stands-answered : standingOf st day earlier ≡ standing.Answered → Answered st day earlier
+  unfolding standingOf Answered
+  stands-answered e = each (none-of inOrder (λ r. holds r st day earlier) e)
+    where
+      each : NoneOf inOrder (λ r. holds r st day earlier) → (r : Refusal) → holds r st day earlier ≡ false
+      each h StationField = h .0
+      each h BadDate = h .1 .0
+      each h Missing = h .1 .1 .0
+      each h OutOfRange = h .1 .1 .1 .0
+      each h OutOfOrder = h .1 .1 .1 .1 .0
+      each h AboveClear = h .1 .1 .1 .1 .1 .0
+      each h SumBelowOne = h .1 .1 .1 .1 .1 .1 .0
+
+  pub answered-figure : Answered st day earlier → judged st day earlier ≡ Figure (figureOf st day earlier)
+  unfolding judged standingOf Answered
+  answered-figure answered =
+      ap (λ (s : Standing). verdictWith s (figureOf st day earlier)) (none-first inOrder (λ r. holds r st day earlier) (λ r. answered r))

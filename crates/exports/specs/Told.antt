@@ -1,0 +1,41 @@
+-- What a number that an exported function returns says of a day or of a log. Every number of 64 bits says one thing, and no two say the same (proofs/Told.antt, `told-apart`).
+-- Assumes nothing.
+use mathlib.Core.Bool.{cond}
+use mathlib.Core.Path.{_≡_}
+use Prim.Native.Nat.{ℕ, _/_, _%_}
+use lib.Dec.{eqb}
+use Rattle.day.specs.Bound.{WithinBound}
+use Rattle.day.specs.Judgement.{Answered}
+use Rattle.day.specs.Rules.{numberOf}
+use Rattle.day.specs.declared.Day.{Day}
+use Rattle.day.specs.declared.Earlier.{Earlier}
+use Rattle.day.specs.declared.Station.{Station}
+use Rattle.day.specs.declared.Verdict.{Verdict}
+use Rattle.day.specs.declared.Verdict.the-variants.{Figure, Refused}
+use Rattle.log.specs.declared.Outcome.{Outcome}
+use Rattle.log.specs.declared.Outcome.the-variants as outcome
+
+-- a figure or a length; or a refusal's number, with its offset or the length needed, and 0 where it has neither
+pub data Said : Type 0 where
+  accepted : ℕ → Said
+  refused : ℕ → ℕ → Said
+
+-- the number of no refusal is 0
+abbrev pub said : ℕ → ℕ → Said
+said number value = cond (eqb number 0) (accepted value) (refused number value)
+
+-- the high half is the refusal's number, the low half the value
+unfoldable pub saidBy : ℕ → Said
+saidBy r = said (r / 4294967296) (r % 4294967296)
+
+abbrev pub verdictSaid : Verdict → Said
+verdictSaid (Figure n) = accepted n
+verdictSaid (Refused why) = refused (numberOf why) 0
+
+abbrev pub outcomeSaid : Outcome → Said
+outcomeSaid (outcome.Written n) = accepted n
+outcomeSaid (outcome.Refused k place) = refused k place
+
+-- Demand 3, of the number: an answered day has a figure there, within the bound
+unfoldable pub FigureSaid : Station → Day → Earlier → ℕ → Type 0
+FigureSaid st x earlier r = Answered st x earlier → (n : ℕ) × (saidBy r ≡ accepted n) × WithinBound st x earlier n
