@@ -199,3 +199,10 @@ pub ≤ℚ-<ℚ-trans : {x y z : ℚ} → x ≤ℚ y → y <ℚ z → x <ℚ z
 
 pub <ℚ-irrefl : {x : ℚ} → ¬ (x <ℚ x)
 <ℚ-irrefl {x} h = T-not (nonneg (x -ℚ x)) (h .lt) (≤ℚ-refl x .le)
+
+pub not-above : {x y : ℚ} → ¬ (y <ℚ x) → x ≤ℚ y
+not-above {x} {y} h = record { le = by-test (nonneg (y -ℚ x)) (λ t. h (record { lt = t })) }
+  where
+    by-test : (b : Bool) → ¬ T (not b) → T b
+    by-test true n = tt
+    by-test false n = absurd (n tt)

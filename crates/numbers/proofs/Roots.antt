@@ -1,35 +1,23 @@
 -- Square roots: a whole root of a number of units², against a root of the exact value. The lemma is `near-root`. Assumes nothing.
-use mathlib.Core.Path.{_≡_, refl, sym, subst}
-use mathlib.Core.Bool.{Bool, true, false, not}
-use lib.Dec.{T}
-use lib.IntN.{pos}
-use Rattle.numbers.specs.Solver.{_:+_, _:-_, _:*_, :-_, _:=_}
-use Rattle.numbers.specs.Fractions.{ℚ, fromℤ, _+ℚ_, _*ℚ_, _-ℚ_, inverse, nonneg, _≤ℚ_, _<ℚ_, Near}
-use Rattle.numbers.proofs.FractionSolver.{ringℚ, from-multipleℚ, _#_}
-use Rattle.numbers.proofs.Order.{NonNeg, nonneg-add, nonneg-mul, nonneg-eq, nonneg-of, gap, from-gap, <ℚ-≤ℚ}
-use Rattle.numbers.proofs.Inverse.{*ℚ-inverse, nonneg-inverse}
+use mathlib.Core.Path.{refl}
+use Rattle.numbers.specs.Solver.{_:+_, _:-_, _:*_, _:=_}
+use Rattle.numbers.specs.Fractions.{ℚ, _+ℚ_, _*ℚ_, _-ℚ_, _≤ℚ_, Near}
+use Rattle.numbers.proofs.FractionSolver.{ringℚ}
+use Rattle.numbers.proofs.Order.{NonNeg, nonneg-add, nonneg-mul, nonneg-eq, gap, from-gap, <ℚ-≤ℚ, <ℚ-≤ℚ-trans, <ℚ-irrefl, not-above}
+use Rattle.numbers.proofs.StrictOrder.{gap-positive, from-positive-gap, positive-add, positive-mul}
 use Rattle.numbers.proofs.Bounds.{bounded, above, below}
 use Rattle.numbers.proofs.Near.{near, error}
 
--- s² ≤ t² gives s ≤ t, where t is not below 0
+-- s² ≤ t² gives s ≤ t, where t is not below 0: were s above t, then s² = t² + (s - t)² + 2t (s - t)
 pub square-cancel : {s t : ℚ} → NonNeg t → s *ℚ s ≤ℚ t *ℚ t → s ≤ℚ t
-square-cancel {s} {t} n h = by-test (nonneg (t -ℚ s)) refl
-  where
-    -- if s were above t: t - s = (t² - s²)/(s - t) + 2t
-    otherwise : fromℤ (pos 0) <ℚ s -ℚ t → s ≤ℚ t
-    otherwise k =
-        from-gap (nonneg-add (nonneg-mul (gap h) (nonneg-inverse (nonneg-of (<ℚ-≤ℚ k)))) (nonneg-add n n))
-        (from-multipleℚ (s +ℚ t) (*ℚ-inverse k)
-        (ringℚ 3 (λ s t i. t :- s :- ((t :* t :- s :* s) :* i :+ (t :+ t)) := (s :+ t) :* ((s :- t) :* i :- 1 # 1)) tt s t (inverse (s -ℚ t))))
-
-    by-test : (b : Bool) → nonneg (t -ℚ s) ≡ b → s ≤ℚ t
-    by-test true e = record { le = subst T (sym e) tt }
-    by-test false e =
-        otherwise
-        (record {
-          lt = subst (λ z. T (not (nonneg z))) (ringℚ 2 (λ s t. t :- s := 0 # 1 :- (s :- t)) tt s t)
-              (subst (λ (b : Bool). T (not b)) (sym e) tt);
-        })
+square-cancel {s} {t} n h =
+    not-above
+    (λ k. let g = gap-positive k in
+    <ℚ-irrefl
+    (<ℚ-≤ℚ-trans
+    (from-positive-gap (positive-add (positive-mul g g) (nonneg-mul (nonneg-add n n) (gap (<ℚ-≤ℚ k))))
+    (ringℚ 2 (λ s t. s :* s :- t :* t := (s :- t) :* (s :- t) :+ (t :+ t) :* (s :- t)) tt s t))
+    h))
 
 -- s² ≤ N, N - A ≤ δ, A ≤ t²: s ≤ t + e, where t is at least m and δ at most 2 m e
 root-at-most : {s t N A m e δ : ℚ} → NonNeg t → NonNeg e → m ≤ℚ t → s *ℚ s ≤ℚ N → NonNeg (δ -ℚ (N -ℚ A)) → A ≤ℚ t *ℚ t → δ ≤ℚ (m +ℚ m) *ℚ e → s ≤ℚ t +ℚ e

@@ -72,6 +72,13 @@ positive-cancel {k} {x} n h =
           (nonneg-eq (ringℚ 2 (λ k x. 0 # 1 :- k :* x := k :* (0 # 1 :- x)) tt k x) (nonneg-mul n (record { test = t })) .test));
     }
 
+-- a factor above 0 is left out: x is 1/k times k x
+pub nonneg-cancel : {k x : ℚ} → whole 0 <ℚ k → NonNeg (k *ℚ x) → NonNeg x
+nonneg-cancel {k} {x} p h =
+    nonneg-eq
+    (from-multipleℚ (-ℚ x) (*ℚ-inverse p) (ringℚ 3 (λ k i x. x :- i :* (k :* x) := :- x :* (k :* i :- 1 # 1)) tt k (inverse k) x))
+    (nonneg-mul (nonneg-inverse-of p) h)
+
 -- y is 1/x times x y
 pub positive-mul : {x y : ℚ} → whole 0 <ℚ x → whole 0 <ℚ y → whole 0 <ℚ x *ℚ y
 positive-mul {x} {y} hx hy =

@@ -1,9 +1,7 @@
--- The table of base + scale · sin(d + 97.92 degrees), for every π within its bounds: `albedo-table`. Assumes nothing.
+-- The values of base + scale · sin(d + 97.92 degrees), for every π within its bounds: `albedo-by-test`. Assumes nothing.
 use mathlib.Core.Path.{_≡_, sym, _∙_, ap, ap₂}
-use mathlib.Core.List.{List}
 use Prim.Native.Nat.{ℕ, _+_, _*_}
 use lib.Dec.{T}
-use lib.ListN.{length}
 use Rattle.numbers.specs.Solver.{_:+_, _:-_, _:*_, _:=_}
 use Rattle.numbers.specs.Ratios.{_over_}
 use Rattle.numbers.specs.Fractions.{ℚ, _+ℚ_, _*ℚ_, _≤ℚ_}
@@ -11,14 +9,14 @@ use Rattle.numbers.proofs.FractionSolver.{ringℚ, _#_}
 use Rattle.numbers.proofs.Order.{NonNeg, nonneg-add, nonneg-mul, nonneg-ratio, nonneg-of, of-nonneg, gap, from-gap, ≤ℚ-trans}
 use Rattle.numbers.proofs.WholeFractions.{nonneg-ℕ}
 use Rattle.tables.specs.Series.{sinTerm}
-use Rattle.tables.specs.Tables.{angle, AlbedoEntry, albedoRange, AlbedoTable}
-use Rattle.tables.specs.Values.{Enclosure, arcSum, arcSums, albedoCurve}
+use Rattle.tables.specs.Tables.{angle, albedoFormula, AlbedoEntry, albedoRange}
+use Rattle.tables.specs.Values.{Enclosure, arcSum, arcSums, albedoCurve, albedoAt}
 use Rattle.numbers.proofs.StrictOrder.{whole, whole-add, whole-mul, whole-times}
-use Rattle.numbers.proofs.Table.{every}
+use Rattle.numbers.proofs.Table.{up-to}
 use Rattle.tables.proofs.Terms.{sinTerm-mono, sin-sums}
 use Rattle.tables.proofs.Sums.{SumOf}
 use Rattle.tables.proofs.SumTests.{Encloses}
-use Rattle.tables.proofs.Curves.{entryTest, curve-table}
+use Rattle.tables.proofs.Curves.{DayValues, dayTest, curve-values}
 
 angle-nonneg : {π : ℚ} → NonNeg π → (d : ℕ) → NonNeg (angle π d)
 unfolding angle
@@ -58,10 +56,10 @@ arc-encloses {least} {π} {most} l h n d low high =
       at-most = sinTerm-mono (angle-nonneg (nonneg-of (≤ℚ-trans (of-nonneg n) l)) d) (angle-mono h d);
     }
 
-pub albedo-table : (xs : List ℕ) → length xs ≡ 366 → T (every (entryTest albedoRange albedoCurve) 1 xs) → AlbedoTable xs
-unfolding AlbedoEntry arcSums
-albedo-table =
-    curve-table albedoRange albedoCurve (whole-times _ _ _ tt) (whole-times _ _ _ tt) AlbedoEntry
+pub albedo-by-test : T (up-to (dayTest albedoRange albedoCurve) 366) → DayValues albedoAt AlbedoEntry albedoRange
+unfolding AlbedoEntry albedoFormula arcSums
+albedo-by-test =
+    curve-values albedoRange albedoCurve (whole-times _ _ _ tt) (whole-times _ _ _ tt) AlbedoEntry
     (λ d r nearest π isPi. nearest _
     (arc-encloses (isPi .low) (isPi .high) (nonneg-ratio _ tt) d
     (arc-sums _ _ _ (whole-times _ _ _ tt) d) (arc-sums _ _ _ (whole-times _ _ _ tt) d)))

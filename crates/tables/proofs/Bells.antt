@@ -1,27 +1,25 @@
--- The tables of base + scale · exp(-(factor · (d - centre))²), for any such numbers: `bell-table`. Assumes nothing.
+-- The values of base + scale · exp(-(factor · (d - centre))²), for any such numbers: `bell-by-test`. Assumes nothing.
 use mathlib.Core.Path.{_≡_, sym, _∙_, ap, ap₂}
 use mathlib.Core.Logic.{Or·elim}
 use mathlib.Core.Quot.{Quot-set}
-use mathlib.Core.List.{List}
 use Prim.Native.Nat.{ℕ, _*_, _-_, _^_, _≤_}
 use native.Mathlib.Nat.{le-total}
 use native.Mathlib.Omega.{arith}
 use lib.Dec.{T}
-use lib.ListN.{length}
 use Rattle.numbers.specs.Solver.{_:-_, _:*_, _:^_, _:=_}
 use Rattle.numbers.specs.Ranges.{Range}
 use Rattle.numbers.specs.Fractions.{ℚ, _*ℚ_, _-ℚ_, _^ℚ_}
 use Rattle.numbers.proofs.FractionSolver.{ringℚ}
 use Rattle.numbers.proofs.Order.{≤ℚ-refl}
-use Rattle.tables.specs.Series.{expTerm}
-use Rattle.tables.specs.Tables.{billionth, BellEntry, DayTable}
+use Rattle.tables.specs.Series.{expTerm, NearestOfSeries}
+use Rattle.tables.specs.Tables.{billionth, bellFormula}
 use Rattle.tables.specs.Values.{apart, Bell, bellSums, bellCurve, curveAt}
 use Rattle.numbers.proofs.StrictOrder.{whole, whole-mul, whole-sub}
 use Rattle.numbers.proofs.FractionPowers.{whole-power}
-use Rattle.numbers.proofs.Table.{every}
+use Rattle.numbers.proofs.Table.{up-to}
 use Rattle.tables.proofs.Terms.{exp-sums}
 use Rattle.tables.proofs.SumTests.{Encloses}
-use Rattle.tables.proofs.Curves.{entryTest, curve-table}
+use Rattle.tables.proofs.Curves.{DayValues, dayTest, curve-values}
 
 -- how far apart, squared: (a - b)², whichever is the larger
 apart-squared : (a b : ℕ) → whole (apart a b) ^ℚ 2 ≡ (whole a -ℚ whole b) ^ℚ 2
@@ -68,11 +66,11 @@ bell-encloses factor centre b h e d =
     }
 
 -- the rule's base and scale are those of the bell, which has them in billionths
-pub bell-table : (range : Range) (b : Bell) (base scale factor : ℚ) (centre : ℕ) →
+pub bell-by-test : (range : Range) (b : Bell) (base scale factor : ℚ) (centre : ℕ) →
     whole (b .base) *ℚ billionth ≡ base → whole (b .scale) *ℚ billionth ≡ scale → whole (b .den) *ℚ factor ≡ whole (b .num) → b .centre ≡ centre →
-    (xs : List ℕ) → length xs ≡ 366 → T (every (entryTest range (bellCurve b)) 1 xs) →
-    DayTable (curveAt (bellCurve b)) (BellEntry base scale factor centre) range xs
-unfolding BellEntry
-bell-table range b base scale factor centre eb es ef ec =
-    curve-table range (bellCurve b) eb es (BellEntry base scale factor centre)
+    T (up-to (dayTest range (bellCurve b)) 366) →
+    DayValues (curveAt (bellCurve b)) (λ d r. NearestOfSeries billionth r (bellFormula base scale factor centre d)) range
+unfolding bellFormula
+bell-by-test range b base scale factor centre eb es ef ec =
+    curve-values range (bellCurve b) eb es (λ d r. NearestOfSeries billionth r (bellFormula base scale factor centre d))
     (λ d r nearest. nearest _ (bell-encloses factor centre b ef ec d))

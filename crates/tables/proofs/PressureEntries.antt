@@ -1,11 +1,10 @@
 -- The entries of the table of pressures: one computed test, in fixed point at 10²⁰, and what follows from it (`pressure-table`). Powers stay
 -- symbols throughout. Assumes nothing.
-use mathlib.Core.Path.{_≡_, refl, sym, _∙_, ap, subst}
-use mathlib.Core.Logic.{⊎-elim}
-use mathlib.Core.Bool.{Bool, true, false, _&&_, cond}
+use mathlib.Core.Path.{_≡_, sym, _∙_, ap}
+use mathlib.Core.Bool.{Bool, _&&_}
 use mathlib.Core.List.{List}
-use Prim.Native.Nat.{ℕ, zero, suc, _+_, _*_, _-_, _^_, _≤_, _<_}
-use native.Mathlib.Nat.{mul-le-mul, mul-le-mul-right, pow-le-pow-left, lt-irrefl, lt-of-lt-of-le, lt-trans, eq-or-lt-of-le}
+use Prim.Native.Nat.{ℕ, suc, _+_, _*_, _-_, _^_, _≤_, _<_}
+use native.Mathlib.Nat.{mul-le-mul, mul-le-mul-right, pow-le-pow-left, lt-irrefl, lt-of-lt-of-le, lt-trans}
 use native.Mathlib.Omega.{arith}
 use lib.Dec.{T, ltb, ltb→lt, lt→ltb, lit<}
 use lib.IntN.{pos}
@@ -22,22 +21,10 @@ use Rattle.numbers.proofs.FractionPowers.{powers-below}
 use Rattle.numbers.proofs.RangeArithmetic.{both}
 use Rattle.numbers.proofs.RangeTests.{test-in-range}
 use Rattle.numbers.proofs.Table.{every, entry-passes}
+use Rattle.tables.proofs.Searches.{first-is}
 use Rattle.tables.proofs.PowerTests.{NearestPower, powerTest, power-nearest}
 
 -- ---- the value: the first number that is not too small
-
-first-step : (f : ℕ → Bool) (k r x : ℕ) (b : Bool) → f k ≡ b → k ≤ r → T (f r) → ((j : ℕ) → j < r → T (f j) → ⊥) →
-    (suc k ≤ r → x ≡ r) → cond b k x ≡ r
-first-step f k r x true e l t below ih =
-    ⊎-elim (λ (q : k ≡ r). q) (λ (h : k < r). absurd (below k h (subst T (sym e) tt))) (eq-or-lt-of-le l)
-first-step f k r x false e l t below ih =
-    ⊎-elim (λ (q : k ≡ r). absurd (subst T (ap f (sym q) ∙ e) t)) ih (eq-or-lt-of-le l)
-
-first-is : (f : ℕ → Bool) (n k r : ℕ) → k ≤ r → r < k + n → T (f r) → ((j : ℕ) → j < r → T (f j) → ⊥) → first f n k ≡ r
-unfolding first
-first-is f zero k r l h t below = absurd (omega arith)
-first-is f (suc n) k r l h t below =
-    first-step f k r (first f n (suc k)) (f k) refl l t below (λ (g : suc k ≤ r). first-is f n (suc k) r g (omega arith) t below)
 
 module _ (scale a b k r : ℕ) (l : a ≤ b) (near : NearestPower scale a b k r) where
   -- the power of a fraction of at most 1 is at most the scale
@@ -50,33 +37,32 @@ module _ (scale a b k r : ℕ) (l : a ≤ b) (near : NearestPower scale a b k r)
   first-nearest : first (λ (p : ℕ). ltb (a ^ k * (2 * scale) ^ 1000) ((2 * p + 1) ^ 1000 * b ^ k)) (suc scale) 0 ≡ r
   first-nearest =
       let top : ¬ (scale < r) = at-most-scale in
-      first-is (λ (p : ℕ). ltb (a ^ k * (2 * scale) ^ 1000) ((2 * p + 1) ^ 1000 * b ^ k)) (suc scale) 0 r (omega arith) (omega arith)
-      (lt→ltb _ _ (near .high))
+      first-is (λ (p : ℕ). ltb (a ^ k * (2 * scale) ^ 1000) ((2 * p + 1) ^ 1000 * b ^ k)) (suc scale) r (omega arith) (lt→ltb _ _ (near .high))
       (λ (j : ℕ) (h : j < r) (t : T (ltb (a ^ k * (2 * scale) ^ 1000) ((2 * j + 1) ^ 1000 * b ^ k))).
       let up : (2 * j + 1) ^ 1000 ≤ (2 * r - 1) ^ 1000 = pow-le-pow-left (omega arith) 1000 in
       lt-irrefl _ (lt-trans (lt-of-lt-of-le (ltb→lt _ _ t) (mul-le-mul-right (b ^ k) up)) (near .low)))
 
 -- ---- the rule, over fractions
 
-ratio-is : (e : ℕ) → e ≤ 3000 → whole ratioDenominator *ℚ pressureRatio e ≡ whole (ratioNumerator e)
+pub ratio-is : (e : ℕ) → e ≤ 3000 → whole ratioDenominator *ℚ pressureRatio e ≡ whole (ratioNumerator e)
 unfolding pressureRatio
 ratio-is e h =
     over-cancels ratioDenominator _ tt _
     ∙ sym (whole-sub {n = 13 * e} (omega arith) ∙ ap (λ (z : ℚ). whole ratioDenominator -ℚ z) (whole-mul 13 e))
 
 -- twice the scale times x units of the scale
-doubled : (k : Ratio) → T (eqᴿ ((seaLevel over 1) *ᴿ k) (1 over 1)) → (x : ℚ) → whole (2 * seaLevel) *ℚ (x *ℚ fraction k) ≡ whole 2 *ℚ x
+pub doubled : (k : Ratio) → T (eqᴿ ((seaLevel over 1) *ᴿ k) (1 over 1)) → (x : ℚ) → whole (2 * seaLevel) *ℚ (x *ℚ fraction k) ≡ whole 2 *ℚ x
 doubled k t x =
     ap (λ (z : ℚ). z *ℚ (x *ℚ fraction k)) (whole-mul 2 seaLevel)
     ∙ ringℚ 3 (λ s x k. 2 # 1 :* s :* (x :* k) := 2 # 1 :* (s :* (x :* k))) tt (whole seaLevel) x (fraction k)
     ∙ ap (λ (z : ℚ). whole 2 *ℚ z) (over-cancels seaLevel k t x)
 
-half-less : (r : ℕ) → 1 ≤ r → whole 2 *ℚ (whole r -ℚ fraction (1 over 2)) ≡ whole (2 * r - 1)
+pub half-less : (r : ℕ) → 1 ≤ r → whole 2 *ℚ (whole r -ℚ fraction (1 over 2)) ≡ whole (2 * r - 1)
 half-less r h =
     ringℚ 1 (λ r. 2 # 1 :* (r :- 1 # 2) := 2 # 1 :* r :- 1 # 1) tt (whole r)
     ∙ sym (whole-sub {n = 1} (omega arith) ∙ ap (λ (z : ℚ). z -ℚ whole 1) (whole-mul 2 r))
 
-half-more : (r : ℕ) → whole 2 *ℚ (whole r +ℚ fraction (1 over 2)) ≡ whole (2 * r + 1)
+pub half-more : (r : ℕ) → whole 2 *ℚ (whole r +ℚ fraction (1 over 2)) ≡ whole (2 * r + 1)
 half-more r =
     ringℚ 1 (λ r. 2 # 1 :* (r :+ 1 # 2) := 2 # 1 :* r :+ 1 # 1) tt (whole r)
     ∙ sym (whole-odd r)

@@ -32,10 +32,16 @@ pub record Nearest (unit : ℚ) (r : ℕ) (y : ℚ) : Type 0 where
   pub low : fromℤ (pos r) *ℚ unit -ℚ 1 /ℚ 2 *ℚ unit <ℚ y
   pub high : y <ℚ fromℤ (pos r) *ℚ unit +ℚ 1 /ℚ 2 *ℚ unit
 
--- r is the whole number of units nearest to f(s), s being the number that lies between any two consecutive partial sums of the series: two of
--- them enclose it so narrowly that r is nearest to f of every number between them
-unfoldable pub NearestOfSeries : ℚ → ℕ → (ℚ → ℚ) → (ℕ → ℚ) → Type 0
-NearestOfSeries unit r f t = (n : ℕ) × ((y : ℚ) → Between (partialSum t n) (partialSum t (suc n)) y → Nearest unit r (f y))
+-- a formula f(s), s being the number that lies between any two consecutive partial sums of an alternating series: f, and the series' terms
+pub record Formula : Type 0 where
+  pub at : ℚ → ℚ
+  pub terms : ℕ → ℚ
+
+-- r is the whole number of units nearest to f(s): two consecutive partial sums enclose s so narrowly that r is nearest to f of every number between
+-- them
+unfoldable pub NearestOfSeries : ℚ → ℕ → Formula → Type 0
+NearestOfSeries unit r f =
+    (n : ℕ) × ((s : ℚ) → Between (partialSum (f .terms) n) (partialSum (f .terms) (suc n)) s → Nearest unit r (f .at s))
 
 -- y is within half a unit of r units, ends included: what the error bound takes for the value behind an entry
 unfoldable pub HalfUnit : ℚ → ℕ → ℚ → Type 0

@@ -6,7 +6,7 @@ use lib.IntN.{pos}
 use lib.ListN.{getD}
 use Rattle.numbers.specs.Ranges.{Range, InRange, from_to_}
 use Rattle.numbers.specs.Fractions.{ℚ, fromℤ, _/ℚ_, _+ℚ_, _-ℚ_, _*ℚ_, _^ℚ_, _≤ℚ_, _<ℚ_}
-use Rattle.tables.specs.Series.{expTerm, sinTerm, NearestOfSeries}
+use Rattle.tables.specs.Series.{expTerm, sinTerm, Formula, NearestOfSeries}
 use Rattle.tables.specs.Values.{albedoAt, a1At, awAt, bwAt, pressureAt}
 
 -- the unit of the four day tables
@@ -22,26 +22,39 @@ pub record IsPi (π : ℚ) : Type 0 where
 unfoldable pub angle : ℚ → ℕ → ℚ
 angle π d = (fromℤ (pos d) +ℚ 9792 /ℚ 100) *ℚ (π *ℚ 1 /ℚ 180)
 
--- albedo 0.29 + 0.06 sin(d + 97.92), in degrees, for every such π
-unfoldable pub AlbedoEntry : ℕ → ℕ → Type 0
-AlbedoEntry d r = (π : ℚ) → IsPi π → NearestOfSeries billionth r (λ s. 29 /ℚ 100 +ℚ 6 /ℚ 100 *ℚ s) (sinTerm (angle π d))
+-- albedo 0.29 + 0.06 sin(d + 97.92), in degrees
+unfoldable pub albedoFormula : ℚ → ℕ → Formula
+albedoFormula π d = record { at = λ s. 29 /ℚ 100 +ℚ 6 /ℚ 100 *ℚ s; terms = sinTerm (angle π d) }
 
--- r is nearest to base + scale · exp(-(factor · (d - centre))²)
-unfoldable pub BellEntry : ℚ → ℚ → ℚ → ℕ → ℕ → ℕ → Type 0
-BellEntry base scale factor centre d r =
-    NearestOfSeries billionth r (λ s. base +ℚ scale *ℚ s) (expTerm ((factor *ℚ (fromℤ (pos d) -ℚ fromℤ (pos centre))) ^ℚ 2))
+-- base + scale · exp(-(factor · (d - centre))²)
+unfoldable pub bellFormula : ℚ → ℚ → ℚ → ℕ → ℕ → Formula
+bellFormula base scale factor centre d =
+    record { at = λ s. base +ℚ scale *ℚ s; terms = expTerm ((factor *ℚ (fromℤ (pos d) -ℚ fromℤ (pos centre))) ^ℚ 2) }
 
 -- a1 = 0.26 + 0.1 exp(-(0.0154(d - 177))²)
-abbrev pub A1Entry : ℕ → ℕ → Type 0
-A1Entry = BellEntry (26 /ℚ 100) (1 /ℚ 10) (154 /ℚ 10000) 177
+abbrev pub a1Formula : ℕ → Formula
+a1Formula = bellFormula (26 /ℚ 100) (1 /ℚ 10) (154 /ℚ 10000) 177
 
 -- aw = 0.4 + 1.4 exp(-((d - 173)/58)²)
-abbrev pub AwEntry : ℕ → ℕ → Type 0
-AwEntry = BellEntry (4 /ℚ 10) (14 /ℚ 10) (1 /ℚ 58) 173
+abbrev pub awFormula : ℕ → Formula
+awFormula = bellFormula (4 /ℚ 10) (14 /ℚ 10) (1 /ℚ 58) 173
 
 -- bw = 0.007 + 0.004 exp(-((d - 243)/80)²)
+abbrev pub bwFormula : ℕ → Formula
+bwFormula = bellFormula (7 /ℚ 1000) (4 /ℚ 1000) (1 /ℚ 80) 243
+
+-- r is nearest to the formula at d; the albedo's, for every such π
+unfoldable pub AlbedoEntry : ℕ → ℕ → Type 0
+AlbedoEntry d r = (π : ℚ) → IsPi π → NearestOfSeries billionth r (albedoFormula π d)
+
+abbrev pub A1Entry : ℕ → ℕ → Type 0
+A1Entry d r = NearestOfSeries billionth r (a1Formula d)
+
+abbrev pub AwEntry : ℕ → ℕ → Type 0
+AwEntry d r = NearestOfSeries billionth r (awFormula d)
+
 abbrev pub BwEntry : ℕ → ℕ → Type 0
-BwEntry = BellEntry (7 /ℚ 1000) (4 /ℚ 1000) (1 /ℚ 80) 243
+BwEntry d r = NearestOfSeries billionth r (bwFormula d)
 
 -- in kPa, a tenth of a pascal
 abbrev pub tenthPascal : ℚ

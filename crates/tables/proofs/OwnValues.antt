@@ -1,0 +1,117 @@
+-- The published formulas' own values are within half a unit of the tables' entries: `own-values-within`. Assumes nothing.
+use mathlib.Core.Path.{_≡_, sym, _∙_, ap}
+use Prim.Native.Nat.{ℕ, zero, suc, _+_, _*_, _-_, _^_, _≤_}
+use native.Mathlib.Nat.{le-of-lt}
+use native.Mathlib.Omega.{arith}
+use lib.Dec.{lit<}
+use Rattle.numbers.specs.Solver.{_:+_, _:-_, _:*_, :-_, _:=_}
+use Rattle.numbers.specs.Ratios.{_over_}
+use Rattle.numbers.specs.Fractions.{ℚ, _/ℚ_, _+ℚ_, _-ℚ_, _*ℚ_, _^ℚ_, _≤ℚ_}
+use Rattle.numbers.proofs.FractionSolver.{ringℚ, _#_}
+use Rattle.numbers.proofs.Order.{nonneg-mul, nonneg-ratio, nonneg-of, of-nonneg, gap, from-gap, ≤ℚ-ratio, ≤ℚ-eq, ≤ℚ-trans}
+use Rattle.numbers.proofs.WholeFractions.{nonneg-ℕ, fromℕ-mono}
+use Rattle.numbers.proofs.StrictOrder.{whole, whole-sub}
+use Rattle.numbers.proofs.FractionPowers.{power-cancel, powers-at-most}
+use Rattle.tables.specs.Series.{Formula, NearestOfSeries, HalfUnit}
+use Rattle.tables.specs.Tables.{billionth, AlbedoEntry, tenthPascal, pressureRatio}
+use Rattle.tables.specs.Values.{ratioNumerator, ratioDenominator, seaLevel, pressureAt}
+use Rattle.tables.specs.OwnValues.{SeriesWithin, IsPower, EnclosePower, kilopascals, PressureWithin, OwnValuesWithin}
+use Rattle.tables.proofs.Nearest.{nearest-half}
+use Rattle.tables.proofs.DayRules.{albedo-values, a1-values, aw-values, bw-values}
+use Rattle.tables.proofs.PressureEntries.{ratio-is, doubled, half-less, half-more}
+use Rattle.tables.proofs.PressureValues.{pressure-low, pressure-high}
+use Rattle.tables.proofs.ValueRanges.{pressure-in}
+
+-- ---- the day tables
+
+series-within : {unit : ℚ} {r : ℕ} {f : Formula} → NearestOfSeries unit r f → SeriesWithin unit r f
+unfolding NearestOfSeries
+series-within h = record { place = h .0; within = λ s b. nearest-half (h .1 s b) }
+
+-- ---- the pressure
+
+-- the power lies between any two fractions that enclose it
+power-between : {x a b z : ℚ} → EnclosePower x a b → IsPower x z → (a ≤ℚ z) × (z ≤ℚ b)
+power-between e p = (
+  power-cancel (nonneg-of (p .from-zero)) 1000 (lit< tt) (≤ℚ-trans (e .below) (≤ℚ-eq (sym (p .power)))),
+  power-cancel (nonneg-of (≤ℚ-trans (e .from-zero) (e .ordered))) 1000 (lit< tt) (≤ℚ-trans (≤ℚ-eq (p .power)) (e .above)),
+)
+
+-- (r - ½)/1,013,000 and (r + ½)/1,013,000
+abbrev lowest : ℕ → ℚ
+lowest r = (whole r -ℚ 1 /ℚ 2) *ℚ 1 /ℚ 1013000
+
+abbrev highest : ℕ → ℚ
+highest r = (whole r +ℚ 1 /ℚ 2) *ℚ 1 /ℚ 1013000
+
+between-half : (r : ℕ) (z : ℚ) → lowest r ≤ℚ z → z ≤ℚ highest r → HalfUnit tenthPascal r (kilopascals z)
+unfolding HalfUnit kilopascals
+between-half r z l h =
+    record {
+      low = from-gap (nonneg-mul (nonneg-ratio (1013 over 10) tt) (gap l))
+          (ringℚ 2 (λ r z. 1013 # 10 :* z :- r :* 1 # 10000 :- :- (1 # 2 :* 1 # 10000) := 1013 # 10 :* (z :- (r :- 1 # 2) :* 1 # 1013000)) tt (whole r) z);
+      high = from-gap (nonneg-mul (nonneg-ratio (1013 over 10) tt) (gap h))
+          (ringℚ 2 (λ r z. 1 # 2 :* 1 # 10000 :- (1013 # 10 :* z :- r :* 1 # 10000) := 1013 # 10 :* ((r :+ 1 # 2) :* 1 # 1013000 :- z)) tt (whole r) z);
+    }
+
+lowest-nonneg : (r : ℕ) → 1 ≤ r → whole 0 ≤ℚ lowest r
+lowest-nonneg r h =
+    of-nonneg (nonneg-mul (gap (≤ℚ-trans (≤ℚ-ratio (1 over 2) (1 over 1) tt) (fromℕ-mono h))) (nonneg-ratio (1 over 1013000) tt))
+
+lowest-below : (r : ℕ) → lowest r ≤ℚ highest r
+lowest-below r = from-gap (nonneg-ratio (1 over 1013000) tt) (ringℚ 1 (λ r. (r :+ 1 # 2) :* 1 # 1013000 :- (r :- 1 # 2) :* 1 # 1013000 := 1 # 1013000) tt (whole r))
+
+encloses : (e r : ℕ) → e ≤ 3000 → 1 ≤ r →
+    (2 * r - 1) ^ 1000 * ratioDenominator ^ 5257 ≤ ratioNumerator e ^ 5257 * (2 * seaLevel) ^ 1000 →
+    ratioNumerator e ^ 5257 * (2 * seaLevel) ^ 1000 ≤ (2 * r + 1) ^ 1000 * ratioDenominator ^ 5257 →
+    EnclosePower (pressureRatio e) (lowest r) (highest r)
+encloses e r h p below above =
+    record {
+      from-zero = lowest-nonneg r p;
+      ordered = lowest-below r;
+      below = powers-at-most _ _ (2 * r - 1) (2 * seaLevel) (ratioNumerator e) ratioDenominator 1000 5257 (lit< tt) (lit< tt)
+          (doubled _ tt _ ∙ half-less r p) (ratio-is e h) below;
+      above = powers-at-most _ _ (ratioNumerator e) ratioDenominator (2 * r + 1) (2 * seaLevel) 5257 1000 (lit< tt) (lit< tt)
+          (ratio-is e h) (doubled _ tt _ ∙ half-more r) above;
+    }
+
+pressure-within : (e : ℕ) → e ≤ 3000 → PressureWithin (pressureAt e) (pressureRatio e)
+pressure-within e h =
+    let r : ℕ = pressureAt e in
+    let some : 1 ≤ pressureAt e = omega (arith, pressure-in e h .bounds .0) in
+    let odd : 2 * (pressureAt e - 1) + 1 ≡ 2 * pressureAt e - 1 = omega arith in
+    let below = rw odd at (pressure-low e (pressureAt e - 1) (omega arith)) in
+    let enclose = encloses e r h some below (le-of-lt (pressure-high e)) in
+    record {
+      low = lowest r;
+      high = highest r;
+      enclose = enclose;
+      within = between-half r;
+      exact = λ z p. let b = power-between enclose p in between-half r z (b .0) (b .1);
+    }
+
+-- where the ratio is 1, as at E = 0, the power is 1, so that `exact` is said of some fraction
+one-power : (n : ℕ) → whole 1 ^ℚ n ≡ whole 1
+one-power zero = ringℚ 0 (1 # 1 := 1 # 1) tt
+one-power (suc n) = ap (λ (z : ℚ). z *ℚ whole 1) (one-power n) ∙ ringℚ 0 (1 # 1 :* 1 # 1 := 1 # 1) tt
+
+one-is-power : {x : ℚ} → x ≡ whole 1 → IsPower x (whole 1)
+one-is-power {x} h =
+    record { from-zero = of-nonneg (nonneg-ℕ 1); power = one-power 1000 ∙ sym (ap (λ (z : ℚ). z ^ℚ 5257) h ∙ one-power 5257) }
+
+sea-level-power : IsPower (pressureRatio 0) (whole 1)
+unfolding pressureRatio
+sea-level-power = one-is-power (ringℚ 0 ((576000 # 1 :- 13 # 1 :* 0 # 1) :* 1 # 576000 := 1 # 1) tt)
+
+-- ---- all five
+
+pub own-values-within : OwnValuesWithin
+unfolding AlbedoEntry
+own-values-within =
+    record {
+      albedo = λ d l h π isPi. series-within (albedo-values .rule d l h π isPi);
+      a1 = λ d l h. series-within (a1-values .rule d l h);
+      aw = λ d l h. series-within (aw-values .rule d l h);
+      bw = λ d l h. series-within (bw-values .rule d l h);
+      pressure = pressure-within;
+    }
