@@ -18,6 +18,10 @@ power-product x y (suc n) =
     ap (λ (z : ℚ). z *ℚ (x *ℚ y)) (power-product x y n)
     ∙ ringℚ 4 (λ a b x y. a :* b :* (x :* y) := a :* x :* (b :* y)) tt (x ^ℚ n) (y ^ℚ n) x y
 
+pub power-one : (n : ℕ) → whole 1 ^ℚ n ≡ whole 1
+power-one zero = refl
+power-one (suc n) = ap (λ (z : ℚ). z *ℚ whole 1) (power-one n) ∙ ringℚ 0 (1 # 1 :* 1 # 1 := 1 # 1) tt
+
 pub whole-power : (u n : ℕ) → whole (u ^ n) ≡ whole u ^ℚ n
 whole-power u zero = ap (λ (k : ℕ). whole k) (pow-zero u)
 whole-power u (suc n) = ap (λ (k : ℕ). whole k) (pow-suc u n) ∙ whole-mul (u ^ n) u ∙ ap (λ (z : ℚ). z *ℚ whole u) (whole-power u n)

@@ -1,5 +1,5 @@
--- The order of ℤ (`lib.Signed`) with the laws that the library lacks, and the absolute value. `from-gapℤ` is the way to an inequality: b - a
--- is a sum of products of numbers that are not below 0. Assumes nothing.
+-- The order of ℤ (`lib.Signed`) with the laws that the library lacks. `from-gapℤ` is the way to an inequality: b - a is a sum of products of numbers
+-- that are not below 0. Assumes nothing.
 use mathlib.Core.Path.{_≡_, refl, sym, _∙_, ap, subst}
 use mathlib.Core.Bool.{Bool, true, false, not, cond}
 use Prim.Native.Nat.{ℕ, zero, suc, _-_, _≤_, _<_, zero-le, suc-le-suc}
@@ -7,9 +7,8 @@ use native.Mathlib.Nat.{le-of-suc-le-suc, not-suc-le-zero}
 use lib.Dec.{T, leb, ltb, le→leb, leb→le, nltb→le}
 use lib.Arith.{le→nltb}
 use lib.IntN.{ℤ, pos, negsuc, negℤ, _+ℤ_, _-ℤ_, _*ℤ_, subℕ}
-use lib.Signed.{nonNeg, ltZ, leZ, _≤ℤ_, ≤ℤ-refl}
+use lib.Signed.{nonNeg, ltZ, leZ, _≤ℤ_}
 use borrow.Author.Tests.{ltb-true, ltb-false, lt-leb, le-leb}
-use Rattle.numbers.specs.Whole.{absℤ}
 use Rattle.numbers.specs.Solver.{con, _:-_, _:*_, :-_, _:=_}
 use Rattle.numbers.specs.IntegerSolver.{ringℤ}
 use Rattle.numbers.specs.Congruence.{nonNeg-mul}
@@ -104,13 +103,3 @@ leZ-is (pos a) (pos b) = leb-is a b (ltb a b) refl
 leZ-is (pos a) (negsuc b) = refl
 leZ-is (negsuc a) (pos b) = refl
 leZ-is (negsuc a) (negsuc b) = leb-is b a (ltb b a) refl
-
--- ---- the absolute value
-
-pub absℤ-le : (a b : ℤ) → a ≤ℤ b → negℤ a ≤ℤ b → absℤ a ≤ℤ b
-absℤ-le (pos a) b h k = h
-absℤ-le (negsuc a) b h k = k
-
-pub le-absℤ : (a : ℤ) → a ≤ℤ absℤ a
-le-absℤ (pos a) = ≤ℤ-refl (pos a)
-le-absℤ (negsuc a) = record { le = tt }

@@ -23,4 +23,3 @@ pub mod Table
 pub mod Reflection
 pub mod WholeRoots
 pub mod Newton
-pub mod WorkedChecks

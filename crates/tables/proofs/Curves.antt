@@ -13,7 +13,7 @@ use Rattle.numbers.specs.Fractions.{ℚ, _+ℚ_, _*ℚ_}
 use Rattle.numbers.proofs.Order.{nonneg-mul, nonneg-ratio, <ℚ-ratio}
 use Rattle.numbers.proofs.WholeFractions.{nonneg-ℕ}
 use Rattle.tables.specs.Series.{NearestOfSeries}
-use Rattle.tables.specs.Tables.{billionth, Entry, DayTable}
+use Rattle.tables.specs.Tables.{billionth, DayTable}
 use Rattle.tables.specs.Values.{Enclosure, Curve, rounded, curveAt}
 use Rattle.numbers.proofs.StrictOrder.{whole}
 use Rattle.numbers.proofs.RangeArithmetic.{both}

@@ -1,6 +1,7 @@
--- The published formulas' own values are within half a unit of the tables' entries: `own-values-within`. Assumes nothing.
+-- The published formulas' own values are within half a unit of the tables' entries: `own-values-within`. Where the ratio is 1 the 5.257 power is a
+-- fraction (`sea-level-power`), so that what is said of such powers is said of some. Assumes nothing.
 use mathlib.Core.Path.{_≡_, sym, _∙_, ap}
-use Prim.Native.Nat.{ℕ, zero, suc, _+_, _*_, _-_, _^_, _≤_}
+use Prim.Native.Nat.{ℕ, _+_, _*_, _-_, _^_, _≤_}
 use native.Mathlib.Nat.{le-of-lt}
 use native.Mathlib.Omega.{arith}
 use lib.Dec.{lit<}
@@ -10,10 +11,10 @@ use Rattle.numbers.specs.Fractions.{ℚ, _/ℚ_, _+ℚ_, _-ℚ_, _*ℚ_, _^ℚ_
 use Rattle.numbers.proofs.FractionSolver.{ringℚ, _#_}
 use Rattle.numbers.proofs.Order.{nonneg-mul, nonneg-ratio, nonneg-of, of-nonneg, gap, from-gap, ≤ℚ-ratio, ≤ℚ-eq, ≤ℚ-trans}
 use Rattle.numbers.proofs.WholeFractions.{nonneg-ℕ, fromℕ-mono}
-use Rattle.numbers.proofs.StrictOrder.{whole, whole-sub}
-use Rattle.numbers.proofs.FractionPowers.{power-cancel, powers-at-most}
+use Rattle.numbers.proofs.StrictOrder.{whole}
+use Rattle.numbers.proofs.FractionPowers.{power-one, power-cancel, powers-at-most}
 use Rattle.tables.specs.Series.{Formula, NearestOfSeries, HalfUnit}
-use Rattle.tables.specs.Tables.{billionth, AlbedoEntry, tenthPascal, pressureRatio}
+use Rattle.tables.specs.Tables.{AlbedoEntry, tenthPascal, pressureRatio}
 use Rattle.tables.specs.Values.{ratioNumerator, ratioDenominator, seaLevel, pressureAt}
 use Rattle.tables.specs.OwnValues.{SeriesWithin, IsPower, EnclosePower, kilopascals, PressureWithin, OwnValuesWithin}
 use Rattle.tables.proofs.Nearest.{nearest-half}
@@ -59,13 +60,15 @@ lowest-nonneg r h =
     of-nonneg (nonneg-mul (gap (≤ℚ-trans (≤ℚ-ratio (1 over 2) (1 over 1) tt) (fromℕ-mono h))) (nonneg-ratio (1 over 1013000) tt))
 
 lowest-below : (r : ℕ) → lowest r ≤ℚ highest r
-lowest-below r = from-gap (nonneg-ratio (1 over 1013000) tt) (ringℚ 1 (λ r. (r :+ 1 # 2) :* 1 # 1013000 :- (r :- 1 # 2) :* 1 # 1013000 := 1 # 1013000) tt (whole r))
+lowest-below r =
+    from-gap (nonneg-ratio (1 over 1013000) tt)
+    (ringℚ 1 (λ r. (r :+ 1 # 2) :* 1 # 1013000 :- (r :- 1 # 2) :* 1 # 1013000 := 1 # 1013000) tt (whole r))
 
-encloses : (e r : ℕ) → e ≤ 3000 → 1 ≤ r →
+power-enclosed : (e r : ℕ) → e ≤ 3000 → 1 ≤ r →
     (2 * r - 1) ^ 1000 * ratioDenominator ^ 5257 ≤ ratioNumerator e ^ 5257 * (2 * seaLevel) ^ 1000 →
     ratioNumerator e ^ 5257 * (2 * seaLevel) ^ 1000 ≤ (2 * r + 1) ^ 1000 * ratioDenominator ^ 5257 →
     EnclosePower (pressureRatio e) (lowest r) (highest r)
-encloses e r h p below above =
+power-enclosed e r h p below above =
     record {
       from-zero = lowest-nonneg r p;
       ordered = lowest-below r;
@@ -81,7 +84,7 @@ pressure-within e h =
     let some : 1 ≤ pressureAt e = omega (arith, pressure-in e h .bounds .0) in
     let odd : 2 * (pressureAt e - 1) + 1 ≡ 2 * pressureAt e - 1 = omega arith in
     let below = rw odd at (pressure-low e (pressureAt e - 1) (omega arith)) in
-    let enclose = encloses e r h some below (le-of-lt (pressure-high e)) in
+    let enclose = power-enclosed e r h some below (le-of-lt (pressure-high e)) in
     record {
       low = lowest r;
       high = highest r;
@@ -90,16 +93,12 @@ pressure-within e h =
       exact = λ z p. let b = power-between enclose p in between-half r z (b .0) (b .1);
     }
 
--- where the ratio is 1, as at E = 0, the power is 1, so that `exact` is said of some fraction
-one-power : (n : ℕ) → whole 1 ^ℚ n ≡ whole 1
-one-power zero = ringℚ 0 (1 # 1 := 1 # 1) tt
-one-power (suc n) = ap (λ (z : ℚ). z *ℚ whole 1) (one-power n) ∙ ringℚ 0 (1 # 1 :* 1 # 1 := 1 # 1) tt
-
+-- the power of 1 is 1
 one-is-power : {x : ℚ} → x ≡ whole 1 → IsPower x (whole 1)
 one-is-power {x} h =
-    record { from-zero = of-nonneg (nonneg-ℕ 1); power = one-power 1000 ∙ sym (ap (λ (z : ℚ). z ^ℚ 5257) h ∙ one-power 5257) }
+    record { from-zero = of-nonneg (nonneg-ℕ 1); power = power-one 1000 ∙ sym (ap (λ (z : ℚ). z ^ℚ 5257) h ∙ power-one 5257) }
 
-sea-level-power : IsPower (pressureRatio 0) (whole 1)
+pub sea-level-power : IsPower (pressureRatio 0) (whole 1)
 unfolding pressureRatio
 sea-level-power = one-is-power (ringℚ 0 ((576000 # 1 :- 13 # 1 :* 0 # 1) :* 1 # 576000 := 1 # 1) tt)
 
