@@ -10,7 +10,7 @@ use Rattle.tables.specs.Tables.{billionth, IsPi, albedoFormula, a1Formul
 use Rattle.tables.specs.Values.{albedoAt, a1At, awAt, bwAt, pressureAt}
 
 -- f(s) is within half a unit of r units. "exp(-x) and sin x are the numbers that lie between any two consecutive partial sums": two of these sums
--- enclose s, and every number between them, ends included, is sent within half a unit.
+-- enclose s, and f of every number between them, ends included, is within half a unit.
 pub record SeriesWithin (unit : ℚ) (r : ℕ) (f : Formula) : Type 0 where
   pub place : ℕ
   pub within : (s : ℚ) → Between (partialSum (f .terms) place) (partialSum (f .terms) (suc place)) s → HalfUnit unit r (f .at s)
@@ -31,8 +31,8 @@ pub record EnclosePower (x a b : ℚ) : Type 0 where
 unfoldable pub kilopascals : ℚ → ℚ
 kilopascals z = 1013 /ℚ 10 *ℚ z
 
--- The pressure of the ratio x is within half a unit of r units: two fractions enclose the power, and every fraction between them, ends included, is
--- sent within half a unit; and so is the power itself, where it is a fraction.
+-- The pressure at the ratio x is within half a unit of r units: two fractions enclose the power, and every fraction between them, ends included, gives
+-- such a pressure; so does the power itself, where it is a fraction.
 pub record PressureWithin (r : ℕ) (x : ℚ) : Type 0 where
   pub low : ℚ
   pub high : ℚ

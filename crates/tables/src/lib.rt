@@ -62,41 +62,41 @@ pub fn pressures() -> [u32; 3001]
 }
 
 // The albedo of the day d of the year, in billionths.
-pub fn albedo(t: &[u32; 366], d: usize) -> u32
-    requires { ⌜ AlbedoTable (now t) × (1 ≤ d) × (d ≤ 366) ⌝ }
+pub fn albedo(albedos: &[u32; 366], d: usize) -> u32
+    requires { ⌜ AlbedoTable (now albedos) × (1 ≤ d) × (d ≤ 366) ⌝ }
     ensures { λ r. ⌜ Entry (albedoAt d) (AlbedoEntry d) albedoRange r ⌝ }
 {
-    t[d - 1]
+    albedos[d - 1]
 }
 
 // The factor a1 of the day d, in billionths.
-pub fn a1(t: &[u32; 366], d: usize) -> u32
-    requires { ⌜ A1Table (now t) × (1 ≤ d) × (d ≤ 366) ⌝ }
+pub fn a1(a1s: &[u32; 366], d: usize) -> u32
+    requires { ⌜ A1Table (now a1s) × (1 ≤ d) × (d ≤ 366) ⌝ }
     ensures { λ r. ⌜ Entry (a1At d) (A1Entry d) a1Range r ⌝ }
 {
-    t[d - 1]
+    a1s[d - 1]
 }
 
 // The factor aw of the day d, in billionths.
-pub fn aw(t: &[u32; 366], d: usize) -> u32
-    requires { ⌜ AwTable (now t) × (1 ≤ d) × (d ≤ 366) ⌝ }
+pub fn aw(aws: &[u32; 366], d: usize) -> u32
+    requires { ⌜ AwTable (now aws) × (1 ≤ d) × (d ≤ 366) ⌝ }
     ensures { λ r. ⌜ Entry (awAt d) (AwEntry d) awRange r ⌝ }
 {
-    t[d - 1]
+    aws[d - 1]
 }
 
 // The factor bw of the day d, in billionths.
-pub fn bw(t: &[u32; 366], d: usize) -> u32
-    requires { ⌜ BwTable (now t) × (1 ≤ d) × (d ≤ 366) ⌝ }
+pub fn bw(bws: &[u32; 366], d: usize) -> u32
+    requires { ⌜ BwTable (now bws) × (1 ≤ d) × (d ≤ 366) ⌝ }
     ensures { λ r. ⌜ Entry (bwAt d) (BwEntry d) bwRange r ⌝ }
 {
-    t[d - 1]
+    bws[d - 1]
 }
 
 // The pressure at e metres, in tenths of a pascal.
-pub fn pressure(t: &[u32; 3001], e: usize) -> u32
-    requires { ⌜ PressureTable (now t) × (e ≤ 3000) ⌝ }
+pub fn pressure(pressures: &[u32; 3001], e: usize) -> u32
+    requires { ⌜ PressureTable (now pressures) × (e ≤ 3000) ⌝ }
     ensures { λ r. ⌜ Entry (pressureAt e) (PressureEntry e) pressureRange r ⌝ }
 {
-    t[e]
+    pressures[e]
 }
