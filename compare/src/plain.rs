@@ -65,7 +65,10 @@ fn figure(station: &Station, day: &Day, earlier: &Earlier) -> Result<u32, u32> {
     let at_minimum = vapour_pressure(i64::from(day.minimum));
     let at_dewpoint = vapour_pressure(i64::from(day.dewpoint));
 
-    let root = (10_000_000 * at_dewpoint as u64).isqrt() as i64;
+    let root = whole_root(
+        10_000_000 * at_dewpoint as u64,
+        184 * powers(i64::from(day.dewpoint)).2 as u64 / 1_000,
+    ) as i64;
     let emittance = i64::from(A1[of_day]) - 139 * root / 100;
     let longwave = emittance * black_body(day) / BILLION * cloud_factor(s, q) / BILLION;
     let net_radiation = (BILLION - i64::from(ALBEDO[of_day])) * (41_868 * s) / BILLION - longwave;
@@ -130,6 +133,15 @@ fn slope(mean: i64) -> i64 {
     let v6 = v4 * v2 / BILLION;
     let v7 = v6 * u / 100_000;
     v7 / 5 - 116_000
+}
+
+/// Newton's steps from a first guess above zero, as the library takes them.
+fn whole_root(n: u64, guess: u64) -> u64 {
+    let mut root = (guess + n / guess) / 2;
+    while n / root < root {
+        root = (root + n / root) / 2;
+    }
+    root
 }
 
 /// The clear-day radiation, never below the station's minimum.

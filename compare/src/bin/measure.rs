@@ -1,6 +1,6 @@
-//! The speed of the proved library, in one run and as ratios: a day judged alone against the same sheet in plain Rust and
-//! against the published routine's floating-point formulas; a log read whole against its days judged one by one. Every
-//! answer that is timed is checked first; a wrong one is the only reason for a failing exit status.
+//! The speed of the proved library, in one run and as ratios: a log read whole, and a day judged alone, against the same
+//! sheet in plain Rust and against the published routine's floating-point formulas. Every answer that is timed is checked
+//! first; a wrong one is the only reason for a failing exit status.
 use compare::days::{self, Case, Random};
 use compare::office::{self, Handed};
 use compare::second::{calendar, log, sheet};
@@ -295,10 +295,11 @@ impl Timed {
     }
 }
 
-/// A log of one station and consecutive days, and the same days as they would be handed in alone.
+/// A log of one station and consecutive days, and the same days as the plain version and the routine take them.
 struct Log {
     bytes: Vec<u8>,
-    handed: Vec<Handed>,
+    cases: Vec<Case>,
+    double: Vec<Readings<f64>>,
     expected: Vec<u8>,
 }
 
@@ -306,7 +307,7 @@ impl Log {
     /// As many whole records as fit.
     fn of_size(size: usize, station: Station, random: &mut Random) -> Self {
         let mut bytes = days::station_record(&station).to_vec();
-        let mut handed = Vec::new();
+        let mut cases = Vec::new();
         let mut earlier: Earlier = [None; 3];
         for (year, d) in (1_950..=2_099).flat_map(|year| (1..=366).map(move |d| (year, d))) {
             if calendar::number(year, d).is_none() {
@@ -318,13 +319,21 @@ impl Log {
                 break;
             }
             bytes.extend(record);
-            handed.push(Handed::new(&station, &day, &earlier));
+            cases.push(Case {
+                station,
+                day,
+                earlier,
+            });
             earlier = [Some(day.mean), earlier[0], earlier[1]];
         }
         let expected = log::answer_bytes(&bytes).expect("a log without a fault");
         Log {
             bytes,
-            handed,
+            double: cases
+                .iter()
+                .map(|case| Readings::new(case, |value| value))
+                .collect(),
+            cases,
             expected,
         }
     }
@@ -495,12 +504,8 @@ fn measure_days(timed: &Timed) -> Vec<Ratio> {
         return Vec::new();
     };
     let mut ratios = vec![
-        ratio("judge / plain", office / plain, Wanted::AtMost(1.1)),
-        ratio(
-            "routine in f64 / judge",
-            routine / office,
-            Wanted::AtLeast(3.0),
-        ),
+        ratio("judge / plain", office / plain, Wanted::Nothing),
+        ratio("routine in f64 / judge", routine / office, Wanted::Nothing),
     ];
     ratios.extend(fortran.iter().map(|fortran| {
         ratio(
@@ -516,16 +521,17 @@ fn measure_days(timed: &Timed) -> Vec<Ratio> {
 struct LogTimes {
     not_cleared: f64,
     cleared: f64,
-    judged: f64,
+    plain: f64,
+    routine: f64,
     plain_pass: f64,
 }
 
-/// The four ways over one log, each a pass of its own; the buffers are lent to the first two.
+/// The five ways over one log, each a pass of its own; the buffers are lent to the first two.
 fn ways<'a>(
     log: &'a Log,
     answers: &'a mut [u8],
     cleared: &'a mut [u8],
-) -> [Box<dyn FnMut() + 'a>; 4] {
+) -> [Box<dyn FnMut() + 'a>; 5] {
     let read = |buffer: &mut [u8]| black_box(office::read_log(black_box(&log.bytes), buffer));
     [
         Box::new(move || {
@@ -535,7 +541,8 @@ fn ways<'a>(
             black_box(&mut *cleared).fill(0);
             read(black_box(&mut *cleared));
         }),
-        Box::new(|| each(&log.handed, Handed::judged)),
+        Box::new(|| each(&log.cases, by_plain)),
+        Box::new(|| each(&log.double, Readings::<f64>::inches)),
         Box::new(|| {
             let bytes = black_box(&log.bytes).iter();
             black_box(bytes.map(|&byte| u64::from(byte)).sum::<u64>());
@@ -556,20 +563,21 @@ fn time_logs(logs: &[Log]) -> Vec<LogTimes> {
     let mut contenders: Vec<&mut dyn FnMut()> =
         ways.iter_mut().map(|way| &mut **way as _).collect();
     best(&mut contenders)
-        .chunks(4)
+        .chunks(5)
         .map(|times| LogTimes {
             not_cleared: times[0],
             cleared: times[1],
-            judged: times[2],
-            plain_pass: times[3],
+            plain: times[2],
+            routine: times[3],
+            plain_pass: times[4],
         })
         .collect()
 }
 
 fn measure_logs(logs: &[Log]) -> Vec<Ratio> {
     println!(
-        "\n{:<40}{:>8}{:>12}{:>10}{:>12}",
-        "A log read whole", "KiB", "us a log", "MB/s", "days/s"
+        "\n{:<40}{:>8}{:>12}{:>10}{:>10}",
+        "A log read whole", "KiB", "us a log", "MB/s", "ns a day"
     );
     let times = time_logs(logs);
     let mut ratios = Vec::new();
@@ -578,22 +586,27 @@ fn measure_logs(logs: &[Log]) -> Vec<Ratio> {
         let named = [
             ("read_log, answer buffer not cleared", times.not_cleared),
             ("read_log, answer buffer cleared first", times.cleared),
-            ("its days judged one by one", times.judged),
+            ("its days by the same sheet in plain i64", times.plain),
+            ("its days by the routine in f64", times.routine),
             ("a plain pass that adds up its bytes", times.plain_pass),
         ];
         for (name, time) in named {
-            let a_second = |count: usize| count as f64 / time * 1e9;
             println!(
-                "{name:<40}{kibibytes:>8}{:>12.2}{:>10.1}{:>12.0}",
+                "{name:<40}{kibibytes:>8}{:>12.2}{:>10.1}{:>10.1}",
                 time / 1e3,
-                a_second(log.bytes.len()) / 1e6,
-                a_second(log.handed.len()),
+                log.bytes.len() as f64 / time * 1e3,
+                time / log.cases.len() as f64,
             );
         }
         ratios.push(ratio(
-            &format!("read_log / its days judged, {kibibytes} KiB"),
-            times.not_cleared / times.judged,
-            Wanted::AtMost(1.3),
+            &format!("its days by the routine / read_log, {kibibytes} KiB"),
+            times.routine / times.not_cleared,
+            Wanted::AtLeast(2.5),
+        ));
+        ratios.push(ratio(
+            &format!("read_log / its days by the plain sheet, {kibibytes} KiB"),
+            times.not_cleared / times.plain,
+            Wanted::Nothing,
         ));
     }
     let [_, half, entire] = &times[..] else {

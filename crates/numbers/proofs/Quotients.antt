@@ -2,7 +2,7 @@
 -- bounded by the divisor. A factor that dividend and divisor share leaves `÷0` as it is. Assumes nothing.
 use mathlib.Core.Path.{_≡_, refl, sym, _∙_, ap}
 use Prim.Native.Nat.{ℕ, zero, suc, _+_, _*_, _/_, _%_, _<_, zero-le, suc-le-suc}
-use native.Mathlib.Nat.{div-add-mod', mod-lt, le-of-lt, mul-pos, zero-div, mul-div-mul-left}
+use native.Mathlib.Nat.{div-add-mod', mod-lt, le-of-lt, mul-pos}
 use native.Mathlib.Numerals.{add-one}
 use lib.Dec.{ltb→lt, lt→ltb, le→leb, lit<}
 use lib.IntN.{ℤ, pos, negsuc, negℤ, _+ℤ_, _-ℤ_, _*ℤ_}
@@ -78,17 +78,6 @@ toward-zero-divided (negsuc a) (pos k) h =
     }
 toward-zero-divided (pos a) (negsuc k) h = absurd (h .lt)
 toward-zero-divided (negsuc a) (negsuc k) h = absurd (h .lt)
-
--- ---- a shared factor n
-
-toward-zero-negative : (a k : ℕ) → negℤ (pos a) ÷0 pos k ≡ negℤ (pos (a / k))
-toward-zero-negative zero k = rw (zero-div k) refl
-toward-zero-negative (suc a) k = refl
-
-pub shared-factor : {n : ℕ} → 0 < n → (z : ℤ) (k : ℕ) → pos n *ℤ z ÷0 pos (n * k) ≡ z ÷0 pos k
-shared-factor h (pos a) k = ap pos (mul-div-mul-left a k h)
-shared-factor {n} h (negsuc a) k =
-    toward-zero-negative (n * suc a) (n * k) ∙ ap (λ (q : ℕ). negℤ (pos q)) (mul-div-mul-left (suc a) k h)
 
 -- ---- the error: q - z/w = -rest/w
 
