@@ -17,7 +17,6 @@ use Rattle.sheet.specs.declared.Entries.{Entries}
 use Rattle.sheet.specs.declared.Earlier.{Earlier as SheetEarlier}
 use Rattle.sheet.specs.Parts.{weighed}
 use Rattle.sheet.specs.StepSheet as sheet
-use Rattle.day.specs.Means.{sumOf}
 use Rattle.day.specs.Calendar.{yearLength, isDate}
 use Rattle.day.specs.Rules.{anyOf, numberOf}
 use Rattle.day.specs.Judgement.{readingsOf, entriesOf, clearOf, meansOf, earlierOf, figureOf, holds, judged, Answered}
@@ -217,7 +216,7 @@ roots = (
 )
 
 pub days : Worked station winterDay winterMeans 0 × Worked station summerDay summerMeans 3_518
-unfolding holds isDate yearLength readingsOf clearOf meansOf earlierOf sumOf sheet.clearSum sheet.Q sheet.aboveTwiceClear sheet.sumBelowOne sheet.U sheet.V2 sheet.V4 sheet.V6 sheet.V7 sheet.V8 sheet.e sheet.D sheet.M sheet.g sheet.w1 sheet.w2 sheet.ρ sheet.K sheet.N sheet.fourthPower sheet.B sheet.emittance sheet.Rb sheet.S sheet.Rn sheet.soilHeat sheet.H sheet.countedWind sheet.Wf sheet.«V» sheet.T sheet.drying sheet.A sheet.Figure
+unfolding holds isDate yearLength readingsOf clearOf meansOf earlierOf sheet.sumOf sheet.clearSum sheet.Q sheet.aboveTwiceClear sheet.sumBelowOne sheet.U sheet.V2 sheet.V4 sheet.V6 sheet.V7 sheet.V8 sheet.e sheet.D sheet.M sheet.g sheet.w1 sheet.w2 sheet.ρ sheet.K sheet.N sheet.fourthPower sheet.B sheet.emittance sheet.Rb sheet.S sheet.Rn sheet.soilHeat sheet.H sheet.countedWind sheet.Wf sheet.«V» sheet.T sheet.drying sheet.A sheet.Figure
 days = (
   worked station winterDay winterMeans (winterEntries 954_675) (entries .0) constants (roots .0) refl refl,
   worked station summerDay summerMeans (summerEntries 954_675) (entries .1) constants (roots .1) refl refl,

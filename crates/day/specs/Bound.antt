@@ -11,9 +11,9 @@ use Rattle.tables.specs.Series.{HalfUnit}
 use Rattle.tables.specs.Tables.{billionth, tenthPascal}
 use Rattle.tables.specs.Values.{albedoAt, a1At, awAt, bwAt, pressureAt}
 use Rattle.sheet.specs.Quantities as quantities
-use Rattle.day.specs.Equation.{Inputs, value}
-use Rattle.day.specs.Equation as equation
-use Rattle.day.specs.Means.{tenths}
+use Rattle.equation.specs.Equation.{Inputs, value}
+use Rattle.equation.specs.Equation as equation
+use Rattle.equation.specs.Nearness.{tenths}
 use Rattle.day.specs.Judgement.{meansOf, Answered}
 use Rattle.day.specs.declared.Station.{Station}
 use Rattle.day.specs.declared.Day.{Day}

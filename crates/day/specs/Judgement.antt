@@ -7,12 +7,12 @@ use lib.IntN.{ℤ, pos, natAbs}
 use lib.ListN.{length}
 use Rattle.tables.specs.Values.{albedoAt, a1At, awAt, bwAt, pressureAt}
 use Rattle.sheet.specs.StepSheet as sheet
+use Rattle.sheet.specs.StepSheet.{sumOf}
 use Rattle.sheet.specs.declared.Readings.{Readings}
 use Rattle.sheet.specs.declared.Entries.{Entries}
 use Rattle.sheet.specs.declared.Earlier.{Earlier as SheetEarlier}
 use Rattle.day.specs.Calendar.{isDate}
 use Rattle.day.specs.Rules.{anyOf, badStation, missingMarks, readingFaults, meanFault, orderFaults}
-use Rattle.day.specs.Means.{sumOf}
 use Rattle.day.specs.declared.Station.{Station}
 use Rattle.day.specs.declared.Day.{Day}
 use Rattle.day.specs.declared.Mean.{Mean}

@@ -1,6 +1,7 @@
 -- The step sheet, line by line, in document 01's order and letters. f is a temperature in tenths of a degree Fahrenheit and m the mean; s is the
 -- radiation and w the wind run, in tenths. `÷↓` is "down", `÷0` drops the fraction toward zero. Assumes nothing.
 use mathlib.Core.Bool.{Bool, cond}
+use mathlib.Core.List.{List, [], _∷_}
 use Prim.Native.Nat.{zero, suc}
 use lib.IntN.{ℤ, pos, negsuc, _+ℤ_, _-ℤ_, _*ℤ_}
 use lib.Signed.{ltZ, leZ}
@@ -128,6 +129,11 @@ unfoldable pub Rn : ℤ → ℤ → ℤ → ℤ
 Rn albedo s Rb = ((pos 1_000_000_000 -ℤ albedo) *ℤ S s ÷↓ pos 1_000_000_000) -ℤ Rb
 
 -- ---- Soil heat: with k earlier means present, sum z: 1,885,000(k × m - z) ÷0 (9k); k = 0 gives 0. H = Rn - soil heat.
+
+-- z, of the earlier means present
+unfoldable pub sumOf : List ℤ → ℤ
+sumOf [] = pos 0
+sumOf (f ∷ fs) = f +ℤ sumOf fs
 
 unfoldable pub soilHeat : ℤ → ℤ → ℤ → ℤ
 soilHeat m (pos zero) z = pos 0

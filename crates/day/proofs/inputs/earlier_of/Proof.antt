@@ -9,8 +9,8 @@ use lib.ListN.{length}
 use Rattle.numbers.specs.Ranges.{from_to_}
 use Rattle.numbers.proofs.Reflection.{MachineExpression, arg, _+ᵐ_, Given, none, _and_, fits, equal-in}
 use Rattle.sheet.specs.Quantities as quantities
+use Rattle.sheet.specs.StepSheet.{sumOf}
 use Rattle.sheet.proofs.Values.{ap₃}
-use Rattle.day.specs.Means.{sumOf}
 use Rattle.day.specs.Judgement.{withMean, meansOf, earlierOf, countOf, tenthsOf}
 use Rattle.day.specs.declared.Mean.{Mean}
 use Rattle.day.specs.declared.Mean.the-variants.{Present, Absent}

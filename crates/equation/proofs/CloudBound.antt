@@ -4,14 +4,14 @@ use mathlib.Core.Path.{_≡_, refl, sym, _∙_, ap, ap₂, subst}
 use mathlib.Core.Bool.{Bool, true, false, not, cond}
 use lib.Dec.{T}
 use lib.IntN.{ℤ, pos, negsuc, _-ℤ_, _*ℤ_}
-use lib.Signed.{ltZ, leZ, _≤ℤ_}
+use lib.Signed.{ltZ, _≤ℤ_}
 use Rattle.numbers.specs.Whole.{_÷↓_}
 use Rattle.numbers.specs.Solver.{_:+_, _:-_, _:*_, _:^_, :-_, _:=_}
 use Rattle.numbers.specs.Ratios.{Ratio, _over_, posᴿ}
 use Rattle.numbers.specs.Fractions.{ℚ, fraction, fromℤ, _/ℚ_, _+ℚ_, _-ℚ_, _*ℚ_, -ℚ_, inverse, _÷ℚ_, _^ℚ_, nonneg, _≤ℚ_, _<ℚ_, aboveℚ, at-leastℚ}
 use Rattle.numbers.proofs.IntegerOrder.{leZ-is}
 use Rattle.numbers.proofs.FractionSolver.{ringℚ, from-multipleℚ, _#_}
-use Rattle.numbers.proofs.Order.{nonneg-add, nonneg-mul, nonneg-ratio, nonneg-of, gap, <ℚ-ratio, ≤ℚ-trans, <ℚ-≤ℚ, <ℚ-≤ℚ-trans}
+use Rattle.numbers.proofs.Order.{nonneg-add, nonneg-mul, nonneg-ratio, nonneg-of, gap, <ℚ-ratio, ≤ℚ-trans, <ℚ-≤ℚ-trans}
 use Rattle.numbers.proofs.WholeFractions.{fromℤ-add, fromℤ-mul, fromℤ-mono}
 use Rattle.numbers.proofs.Inverse.{*ℚ-inverse, nonneg-inverse-of}
 use Rattle.numbers.proofs.Bounds.{Bounded, bounded, bounded-eq}
@@ -20,9 +20,9 @@ use Rattle.numbers.proofs.Rounded.{Rounded, weaken, in-unit, of-value, in-range
 use Rattle.numbers.proofs.RoundedQuotient.{quotient-rounded}
 use Rattle.numbers.proofs.RoundedLimit.{limited-below, test-in-units}
 use Rattle.sheet.specs.StepSheet as sheet
-use Rattle.day.specs.Equation as equation
-use Rattle.day.specs.Means.{tenths}
-use Rattle.day.proofs.Units.{billionths}
+use Rattle.equation.specs.Equation as equation
+use Rattle.equation.specs.Nearness.{tenths}
+use Rattle.equation.proofs.Units.{billionths}
 
 -- ---- the clear-day radiation: exact
 

@@ -6,7 +6,7 @@ use lib.IntN.{ℤ, pos, _*ℤ_}
 use Rattle.numbers.specs.Whole.{wholeRoot}
 use Rattle.numbers.specs.Solver.{_:+_, _:-_, _:*_, _:=_}
 use Rattle.numbers.specs.Ratios.{_over_}
-use Rattle.numbers.specs.Fractions.{ℚ, fraction, _/ℚ_, _+ℚ_, _-ℚ_, _*ℚ_, _÷ℚ_, _^ℚ_, _≤ℚ_}
+use Rattle.numbers.specs.Fractions.{ℚ, _/ℚ_, _+ℚ_, _-ℚ_, _*ℚ_, _÷ℚ_, _^ℚ_, _≤ℚ_}
 use Rattle.numbers.specs.Rounding.{RootOf}
 use Rattle.numbers.proofs.FractionSolver.{ringℚ, _#_}
 use Rattle.numbers.proofs.Order.{NonNeg, nonneg-add, nonneg-mul, nonneg-ratio, gap}
@@ -17,9 +17,9 @@ use Rattle.numbers.proofs.Rounded.{Rounded, weaken, in-unit, of-value, of-whole
 use Rattle.numbers.proofs.RoundedRoot.{root-rounded}
 use Rattle.numbers.proofs.WholeRoots.{root-of}
 use Rattle.sheet.specs.StepSheet as sheet
-use Rattle.day.specs.Equation as equation
-use Rattle.day.specs.Means.{tenths}
-use Rattle.day.proofs.Units.{billionths, hundredMillionths, tenMillionths}
+use Rattle.equation.specs.Equation as equation
+use Rattle.equation.specs.Nearness.{tenths}
+use Rattle.equation.proofs.Units.{billionths, hundredMillionths, tenMillionths}
 
 -- half of a number, as the equation writes it
 pub half-is : (x : ℚ) → x ÷ℚ 2 /ℚ 1 ≡ x *ℚ 1 /ℚ 2

@@ -5,7 +5,7 @@ use lib.IntN.{ℤ, pos, negsuc, _+ℤ_, _*ℤ_}
 use lib.Signed.{_≤ℤ_}
 use Rattle.numbers.specs.Solver.{_:+_, _:-_, _:*_, _:=_}
 use Rattle.numbers.specs.Ratios.{_over_, _+ᴿ_, _*ᴿ_, inverseᴿ}
-use Rattle.numbers.specs.Fractions.{ℚ, fraction, fromℤ, _/ℚ_, _+ℚ_, _-ℚ_, _*ℚ_, inverse, _÷ℚ_, _≤ℚ_, _<ℚ_, Near}
+use Rattle.numbers.specs.Fractions.{ℚ, fromℤ, _/ℚ_, _+ℚ_, _-ℚ_, _*ℚ_, inverse, _÷ℚ_, _≤ℚ_, _<ℚ_, Near}
 use Rattle.numbers.specs.Rounding.{downError}
 use Rattle.numbers.proofs.FractionSolver.{ringℚ, from-multipleℚ, _#_, fraction-sum, fraction-product}
 use Rattle.numbers.proofs.Order.{NonNeg, nonneg-add, nonneg-mul, nonneg-square, nonneg-ratio, gap, from-gap, ≤ℚ-ratio, <ℚ-ratio, ≤ℚ-eq, ≤ℚ-trans, <ℚ-≤ℚ-trans, +ℚ-mono}
@@ -17,10 +17,10 @@ use Rattle.numbers.proofs.Quotients.{rounds-down}
 use Rattle.numbers.proofs.Rounded.{Rounded, weaken, of-value, sum, multiple, scaled, at-least}
 use Rattle.numbers.proofs.RoundedQuotient.{quotient-near, plain-quotient}
 use Rattle.sheet.specs.StepSheet as sheet
-use Rattle.day.specs.Equation as equation
-use Rattle.day.specs.Means.{tenths}
-use Rattle.day.proofs.Units.{billionths}
-use Rattle.day.proofs.TemperatureBound.{nonneg-above, D-rounded, M-rounded, Δ-low, L-low, L-high}
+use Rattle.equation.specs.Equation as equation
+use Rattle.equation.specs.Nearness.{tenths}
+use Rattle.equation.proofs.Units.{billionths}
+use Rattle.equation.proofs.TemperatureBound.{nonneg-above, D-rounded, M-rounded, Δ-low, L-low, L-high}
 
 module _ (m : ℤ) (lo : negsuc 93 ≤ℤ m) (hi : m ≤ℤ pos 1291) (p : ℤ) (P : ℚ) (hP : Rounded p (1 over 10000) P (102 over 1) (1 over 20000)) (P-low : 6999 /ℚ 100 ≤ℚ P) where
   L : ℚ

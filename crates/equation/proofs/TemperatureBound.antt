@@ -19,9 +19,9 @@ use Rattle.numbers.proofs.Quotients.{rounds-down}
 use Rattle.numbers.proofs.Rounded.{Rounded, wholeᴿ, weaken, in-unit, of-value, of-whole, in-range, literal, sum, difference, product, multiple, scaled, divided, portion}
 use Rattle.numbers.proofs.RoundedLimit.{absolute-rounded}
 use Rattle.sheet.specs.StepSheet as sheet
-use Rattle.day.specs.Equation as equation
-use Rattle.day.specs.Means.{tenths}
-use Rattle.day.proofs.Units.{billionths}
+use Rattle.equation.specs.Equation as equation
+use Rattle.equation.specs.Nearness.{tenths}
+use Rattle.equation.proofs.Units.{billionths}
 
 -- a product from below, with a number for the product of the bounds
 pub product-at-least : {x y : ℚ} (l m n : Ratio) → T (nonnegᴿ l) → T (nonnegᴿ m) → T (leᴿ n (l *ᴿ m)) → fraction l ≤ℚ x → fraction m ≤ℚ y → fraction n ≤ℚ x *ℚ y

@@ -22,8 +22,8 @@ use Rattle.numbers.proofs.Rounded.{Rounded, weaken, of-value, of-whole, differe
 use Rattle.numbers.proofs.RoundedQuotient.{plain-quotient, divisor-above}
 use Rattle.numbers.proofs.RoundedLimit.{limited-below}
 use Rattle.sheet.specs.StepSheet as sheet
-use Rattle.day.specs.Equation as equation
-use Rattle.day.proofs.Units.{tenMillionths}
+use Rattle.equation.specs.Nearness.{bound}
+use Rattle.equation.proofs.Units.{tenMillionths}
 
 pub H-rounded : {rn soil : ℤ} {Rn G : ℚ} → Rounded rn tenMillionths Rn (865 over 10) (45 over 10000000) → Rounded soil tenMillionths G (30 over 1) (1 over 10000000) →
     Rounded (sheet.H rn soil) tenMillionths (Rn -ℚ G) (1165 over 10) (46 over 10000000)
@@ -101,10 +101,10 @@ module _ {A M : ℤ} {X L : ℚ} (hA : Rounded A tenMillionths X (440 over 1) (9
   divisor : Rounded (pos 100 *ℤ M) (1 over 600000000) L (272 over 100) (0 over 1)
   divisor = of-value (ringℚ 1 (λ l. 1 # 100 :* (100 # 1 :* l) := l) tt L) (weaken tt tt tt (scaled (1 over 100) tt (multiple 100 hM)))
 
-  unlimited : Rounded (nearestQuotient (pos 23622 *ℤ A) (pos 100 *ℤ M)) (1 over 10000) ((3937 /ℚ 100000 *ℚ X) ÷ℚ L) (8 over 1) (515 over 10000000)
+  unlimited : Rounded (nearestQuotient (pos 23622 *ℤ A) (pos 100 *ℤ M)) (1 over 10000) ((3937 /ℚ 100000 *ℚ X) ÷ℚ L) (8 over 1) bound
   unlimited = weaken tt tt tt (plain-quotient rounds-nearest (1 over 10000) (23735 over 10000) tt tt tt tt L-low dividend divisor)
 
-  pub figure-rounded : Rounded (sheet.Figure A M) (1 over 10000) (at-leastℚ (0 /ℚ 1) ((3937 /ℚ 100000 *ℚ X) ÷ℚ L)) (8 over 1) (515 over 10000000)
+  pub figure-rounded : Rounded (sheet.Figure A M) (1 over 10000) (at-leastℚ (0 /ℚ 1) ((3937 /ℚ 100000 *ℚ X) ÷ℚ L)) (8 over 1) bound
   figure-rounded =
       of-whole (figure-is A M (divisor-above (pos 100 *ℤ M) (1 over 600000000) tt value-above))
       (of-value (ap (λ (l : ℚ). at-leastℚ l ((3937 /ℚ 100000 *ℚ X) ÷ℚ L)) zero-is)

@@ -4,11 +4,11 @@ use mathlib.Core.Path.{_≡_, ap}
 use mathlib.Core.Bool.{false}
 use mathlib.Core.List.{List, map}
 use Prim.Native.Nat.{ℕ, _≤_}
-use lib.IntN.{ℤ, pos, negsuc, _*ℤ_}
+use lib.IntN.{ℤ, pos, _*ℤ_}
 use lib.ListN.{length}
 use lib.Signed.{_≤ℤ_}
 use Rattle.numbers.specs.Ratios.{_over_}
-use Rattle.numbers.specs.Fractions.{ℚ, fraction, fromℤ, _/ℚ_, _+ℚ_, _-ℚ_, _*ℚ_, _≤ℚ_, _<ℚ_, at-leastℚ}
+use Rattle.numbers.specs.Fractions.{ℚ, fromℤ, _/ℚ_, _+ℚ_, _-ℚ_, _*ℚ_, _≤ℚ_, _<ℚ_, at-leastℚ}
 use Rattle.numbers.specs.Rounding.{RootOf}
 use Rattle.numbers.proofs.Order.{NonNeg, nonneg-ratio, <ℚ-ratio, <ℚ-≤ℚ-trans}
 use Rattle.numbers.proofs.Bounds.{Bounded, bounded-mul, bounded-scale}
@@ -17,22 +17,19 @@ use Rattle.numbers.proofs.Rounded.{Rounded, of-value}
 use Rattle.numbers.proofs.RoundedRoot.{root-nonneg}
 use Rattle.sheet.specs.declared.Readings.{Readings}
 use Rattle.sheet.specs.declared.Entries.{Entries}
+use Rattle.sheet.specs.StepSheet.{sumOf}
 use Rattle.sheet.specs.StepSheet as sheet
-use Rattle.day.specs.Equation as equation
-use Rattle.day.specs.Means.{sumOf, tenths}
-use Rattle.day.proofs.Units.{billionths}
-use Rattle.day.proofs.TemperatureBound.{nonneg-above, product-at-least, e-rounded, e-low, e-high, e-rises, Δ-low, M-rounded, L-low, fourth-power-rounded}
-use Rattle.day.proofs.WeightsBound.{mean-error, W-nonneg, rest-nonneg, sum-low, sum-above, W}
-use Rattle.day.proofs.CloudBound.{R-rounded, K-rounded}
-use Rattle.day.proofs.RadiationBound.{B-rounded, r-rounded, emittance-rounded, Rb-rounded, Rn-rounded}
-use Rattle.day.proofs.SoilBound.{AllTemperatures, soil-rounded}
-use Rattle.day.proofs.WindBound.{u-rounded, Wf-rounded, V-rounded, V-bounded, T-rounded}
-use Rattle.day.proofs.FigureBound.{H-rounded, apart, A-rounded, figure-rounded, weighed}
-
--- a temperature in range
-pub record IsTemperature (f : ℤ) : Type 0 where
-  pub low : negsuc 93 ≤ℤ f
-  pub high : f ≤ℤ pos 1291
+use Rattle.equation.specs.Equation as equation
+use Rattle.equation.specs.Nearness.{tenths, AllTemperatures, bound}
+use Rattle.equation.proofs.Units.{billionths}
+use Rattle.equation.proofs.Ends.{IsTemperature}
+use Rattle.equation.proofs.TemperatureBound.{nonneg-above, product-at-least, e-rounded, e-low, e-high, e-rises, Δ-low, M-rounded, L-low, fourth-power-rounded}
+use Rattle.equation.proofs.WeightsBound.{mean-error, W-nonneg, rest-nonneg, sum-low, sum-above, W}
+use Rattle.equation.proofs.CloudBound.{R-rounded, K-rounded}
+use Rattle.equation.proofs.RadiationBound.{B-rounded, r-rounded, emittance-rounded, Rb-rounded, Rn-rounded}
+use Rattle.equation.proofs.SoilBound.{soil-rounded}
+use Rattle.equation.proofs.WindBound.{u-rounded, Wf-rounded, V-rounded, V-bounded, T-rounded}
+use Rattle.equation.proofs.FigureBound.{H-rounded, apart, A-rounded, figure-rounded, weighed}
 
 module _ (x : Readings) (t : Entries)
     (maximum : IsTemperature (x .maximum)) (minimum : IsTemperature (x .minimum)) (mean : IsTemperature (x .mean)) (dewpoint : IsTemperature (x .dewpoint))
@@ -105,7 +102,7 @@ module _ (x : Readings) (t : Entries)
       <ℚ-≤ℚ-trans (<ℚ-ratio (1 over 10) tt)
       (product-at-least (526 over 10000) (23735 over 10000) (1 over 10) tt tt tt (sum-low (x .mean) (mean .low) (mean .high) (t .p) P hP P-low) (L-low (x .mean) (mean .low) (mean .high)))
 
-  pub sheet-rounded : Rounded (sheet.figure x t (record { k = pos (length fs); z = sumOf fs }) q) (1 over 10000) (equation.inches Δ γ L Rn G T′) (8 over 1) (515 over 10000000)
+  pub sheet-rounded : Rounded (sheet.figure x t (record { k = pos (length fs); z = sumOf fs }) q) (1 over 10000) (equation.inches Δ γ L Rn G T′) (8 over 1) bound
   unfolding sheet.figure sheet.w2 equation.inches W
   sheet-rounded =
       of-value (ap (λ (v : ℚ). at-leastℚ (0 /ℚ 1) v) (weighed Δ γ L (Rn -ℚ G) T′ (sum-above (x .mean) (mean .low) (mean .high) (t .p) P hP P-low) L-above both-above))

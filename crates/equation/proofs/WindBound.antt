@@ -17,11 +17,11 @@ use Rattle.numbers.proofs.Quotients.{rounds-down, rounds-toward-zero}
 use Rattle.numbers.proofs.Rounded.{Rounded, weaken, in-unit, of-value, of-whole, sized, in-range, sum, difference, product, scaled, divided, portion}
 use Rattle.numbers.proofs.RoundedLimit.{limited-above}
 use Rattle.sheet.specs.StepSheet as sheet
-use Rattle.day.specs.Equation as equation
-use Rattle.day.specs.Means.{tenths}
-use Rattle.day.proofs.Units.{billionths, tenMillionths}
-use Rattle.day.proofs.TemperatureBound.{nonneg-above}
-use Rattle.day.proofs.RadiationBound.{half-is}
+use Rattle.equation.specs.Equation as equation
+use Rattle.equation.specs.Nearness.{tenths}
+use Rattle.equation.proofs.Units.{billionths, tenMillionths}
+use Rattle.equation.proofs.TemperatureBound.{nonneg-above}
+use Rattle.equation.proofs.RadiationBound.{half-is}
 
 -- a limit from above of a number that is not below 0
 limit-bounded : (l x : ℚ) → NonNeg l → NonNeg x → Bounded (at-mostℚ l x) l

@@ -1,32 +1,29 @@
 -- The soil heat of the sheet against the equation's G, for up to three earlier means. Assumes nothing.
 use mathlib.Core.Path.{_≡_, refl, sym, _∙_, ap, ap₂}
 use mathlib.Core.List.{List, [], _∷_, map}
-use Prim.Native.Nat.{ℕ, zero, suc, _+_, _≤_, suc-le-suc, zero-le}
+use Prim.Native.Nat.{ℕ, _≤_, suc-le-suc, zero-le}
 use native.Mathlib.Omega.{arith}
 use lib.IntN.{ℤ, pos, negsuc, _-ℤ_, _*ℤ_}
 use lib.ListN.{length}
 use lib.Signed.{_≤ℤ_}
 use Rattle.numbers.specs.Solver.{con, _:+_, _:-_, _:*_, :-_, _:=_}
 use Rattle.numbers.specs.Ratios.{_over_}
-use Rattle.numbers.specs.Fractions.{ℚ, fraction, fromℤ, _/ℚ_, _+ℚ_, _-ℚ_, _*ℚ_, -ℚ_, inverse, _÷ℚ_, _≤ℚ_, _<ℚ_}
+use Rattle.numbers.specs.Fractions.{ℚ, fromℤ, _/ℚ_, _+ℚ_, _-ℚ_, _*ℚ_, -ℚ_, inverse, _÷ℚ_, _≤ℚ_, _<ℚ_}
 use Rattle.numbers.proofs.FractionSolver.{ringℚ, from-multipleℚ, _#_}
-use Rattle.numbers.proofs.Order.{nonneg-add, nonneg-mul, nonneg-ratio, gap, from-gap, ≤ℚ-eq, ≤ℚ-trans, <ℚ-ratio, <ℚ-≤ℚ-trans}
+use Rattle.numbers.proofs.Order.{nonneg-add, nonneg-mul, nonneg-ratio, gap, from-gap, ≤ℚ-eq, <ℚ-ratio, <ℚ-≤ℚ-trans}
 use Rattle.numbers.proofs.WholeFractions.{nonneg-ℕ, fromℤ-add, fromℤ-mul, fromℤ-sub, fromℤ-mono, fromℕ-mono}
 use Rattle.numbers.proofs.Inverse.{*ℚ-inverse, nonneg-inverse-of}
 use Rattle.numbers.proofs.Bounds.{Bounded, bounded, bounded-add, bounded-eq, bounded-weaken, bounded-scale, bounded-nonneg}
 use Rattle.numbers.proofs.Quotients.{rounds-toward-zero}
 use Rattle.numbers.proofs.Rounded.{Rounded, wholeᴿ, weaken, of-value, exact, literal, multiple, scaled}
 use Rattle.numbers.proofs.RoundedQuotient.{quotient-rounded}
+use Rattle.sheet.specs.StepSheet.{sumOf}
 use Rattle.sheet.specs.StepSheet as sheet
-use Rattle.day.specs.Equation as equation
-use Rattle.day.specs.Means.{sumOf, tenths}
-use Rattle.day.proofs.Units.{tenMillionths}
-use Rattle.day.proofs.TemperatureBound.{t-is}
-
--- each is a temperature in range
-pub data AllTemperatures : List ℤ → Type 0 where
-  none : AllTemperatures []
-  more : {f : ℤ} {fs : List ℤ} → negsuc 93 ≤ℤ f → f ≤ℤ pos 1291 → AllTemperatures fs → AllTemperatures (f ∷ fs)
+use Rattle.equation.specs.Equation as equation
+use Rattle.equation.specs.Nearness.{tenths, AllTemperatures, none, more}
+use Rattle.equation.proofs.Units.{tenMillionths}
+use Rattle.equation.proofs.Ends.{IsTemperature, temperature-ends}
+use Rattle.equation.proofs.TemperatureBound.{t-is}
 
 -- their number, as a fraction
 abbrev count : List ℤ → ℚ
@@ -55,11 +52,11 @@ module _ (m : ℤ) (lo : negsuc 93 ≤ℤ m) (hi : m ≤ℤ pos 1291) where
   change : List ℤ → ℚ
   change fs = count fs *ℚ fromℤ m -ℚ fromℤ (sumOf fs)
 
-  one-bounded : {f : ℤ} → negsuc 93 ≤ℤ f → f ≤ℤ pos 1291 → Bounded (fromℤ m -ℚ fromℤ f) (1385 /ℚ 1)
-  one-bounded {f} l h =
-      bounded (nonneg-add (gap (fromℤ-mono lo)) (gap (fromℤ-mono h)))
+  one-bounded : {f : ℤ} → IsTemperature f → Bounded (fromℤ m -ℚ fromℤ f) (1385 /ℚ 1)
+  one-bounded {f} between =
+      bounded (nonneg-add (gap (fromℤ-mono lo)) (gap (fromℤ-mono (between .high))))
       (ringℚ 2 (λ m f. m :- f :+ 1385 # 1 := m :- con (wholeᴿ (negsuc 93)) :+ (1291 # 1 :- f)) tt (fromℤ m) (fromℤ f))
-      (nonneg-add (gap (fromℤ-mono hi)) (gap (fromℤ-mono l)))
+      (nonneg-add (gap (fromℤ-mono hi)) (gap (fromℤ-mono (between .low))))
       (ringℚ 2 (λ m f. 1385 # 1 :- (m :- f) := 1291 # 1 :- m :+ (f :- con (wholeᴿ (negsuc 93)))) tt (fromℤ m) (fromℤ f))
 
   change-bounded : (fs : List ℤ) → AllTemperatures fs → Bounded (change fs) (1385 /ℚ 1 *ℚ count fs)
@@ -67,12 +64,12 @@ module _ (m : ℤ) (lo : negsuc 93 ≤ℤ m) (hi : m ≤ℤ pos 1291) where
   change-bounded [] none =
       bounded (nonneg-ratio (0 over 1) tt) (ringℚ 1 (λ m. 0 # 1 :* m :- 0 # 1 :+ 1385 # 1 :* 0 # 1 := 0 # 1) tt (fromℤ m)) (nonneg-ratio (0 over 1) tt)
       (ringℚ 1 (λ m. 1385 # 1 :* 0 # 1 :- (0 # 1 :* m :- 0 # 1) := 0 # 1) tt (fromℤ m))
-  change-bounded (f ∷ fs) (more l h rest) =
+  change-bounded (f ∷ fs) (more p rest) =
       bounded-weaken
       (bounded-eq
       (ap₂ (λ (n z : ℚ). n *ℚ fromℤ m -ℚ z) (count-more f fs) (fromℤ-add f (sumOf fs))
       ∙ ringℚ 4 (λ m f n z. (1 # 1 :+ n) :* m :- (f :+ z) := m :- f :+ (n :* m :- z)) tt (fromℤ m) (fromℤ f) (count fs) (fromℤ (sumOf fs)))
-      (bounded-add (one-bounded l h) (change-bounded fs rest)))
+      (bounded-add (one-bounded (temperature-ends p)) (change-bounded fs rest)))
       (≤ℚ-eq (ringℚ 1 (λ n. 1385 # 1 :+ 1385 # 1 :* n := 1385 # 1 :* (1 # 1 :+ n)) tt (count fs) ∙ ap (λ (n : ℚ). 1385 /ℚ 1 *ℚ n) (sym (count-more f fs))))
 
   change-is : (fs : List ℤ) → fromℤ (pos (length fs) *ℤ m -ℤ sumOf fs) ≡ change fs

@@ -1,0 +1,13 @@
+-- The proof that the figure is near: one file for each part of the sheet, and `figure-near` in Nearness, over all of them.
+pub mod Units
+pub mod Ends
+pub mod TemperatureBound
+pub mod WeightsBound
+pub mod CloudBound
+pub mod RadiationBound
+pub mod WindBound
+pub mod SoilBound
+pub mod EntryBound
+pub mod FigureBound
+pub mod SheetBound
+pub mod Nearness
