@@ -1,21 +1,24 @@
 -- An answered day's figure is within the bound: that none of the refusals holds gives every range that `figure-near` asks for. The theorems are
 -- `judged-within-proved`, at the sharper bound, and `judged-within-bound`, at the demanded one. Assumes nothing.
-use mathlib.Core.Path.{_≡_, refl, _∙_, ap}
+use mathlib.Core.Path.{_≡_, refl, sym, _∙_, ap, subst}
 use mathlib.Core.Bool.{Bool, false, cond}
-use mathlib.Core.List.{List, [], _∷_}
+use mathlib.Core.List.{List, [], _∷_, map}
 use Prim.Native.Nat.{ℕ, suc, _≤_, zero-le, suc-le-suc}
 use native.Mathlib.Omega.{arith}
 use lib.IntN.{ℤ, pos}
 use lib.ListN.{length}
 use Rattle.numbers.specs.Ratios.{_over_}
+use Rattle.numbers.specs.Fractions.{ℚ, fromℤ, _/ℚ_, _-ℚ_, _*ℚ_, _≤ℚ_, absℚ}
 use Rattle.numbers.proofs.Order.{≤ℚ-ratio, ≤ℚ-trans}
 use Rattle.sheet.specs.Quantities as quantities
 use Rattle.sheet.specs.Accepted.{EntriesInRange}
-use Rattle.equation.specs.Nearness.{Constants, ConstantsInRange, AllTemperatures, none, more, Accepted, bound, FigureNear}
+use Rattle.equation.specs.Equation.{value}
+use Rattle.equation.specs.Nearness as nearness
+use Rattle.equation.specs.Nearness.{tenths, Constants, ConstantsInRange, AllTemperatures, none, more, Accepted, bound, FigureNear}
 use Rattle.equation.proofs.Nearness.{figure-near}
 use Rattle.day.specs.Rules.{meanFault}
 use Rattle.day.specs.Judgement.{readingsOf, entriesOf, clearOf, withMean, meansOf, earlierOf, figureOf, holds, firstOf, inOrder, judged, Answered}
-use Rattle.day.specs.Bound.{inputsOf, Within, WithinBound, provedBound, SignedConstants, FigureOwed, JudgesWithinBound}
+use Rattle.day.specs.Bound.{ifPresent, earlierMeans, inputsOf, Within, WithinBound, provedBound, SignedConstants, FigureOwed, JudgesWithinBound}
 use Rattle.day.specs.declared.Station.{Station}
 use Rattle.day.specs.declared.Day.{Day}
 use Rattle.day.specs.declared.Mean.{Mean}
@@ -43,6 +46,18 @@ one-more Absent fs n h = omega arith
 few-means : (earlier : Earlier) → length (meansOf earlier) ≤ 3
 unfolding meansOf
 few-means earlier = one-more (earlier .one) _ 2 (one-more (earlier .two) _ 1 (one-more (earlier .three) [] 0 zero-le))
+
+-- the equation is fed the means that the sheet is worked from
+if-present : (m : Mean) (fs : List ℤ) → ifPresent m (map tenths fs) ≡ map tenths (withMean m fs)
+if-present (Present f) fs = refl
+if-present Absent fs = refl
+
+same-means : (earlier : Earlier) → earlierMeans earlier ≡ map tenths (meansOf earlier)
+unfolding meansOf
+same-means earlier =
+    ap (λ Fs. ifPresent (earlier .one) (ifPresent (earlier .two) Fs)) (if-present (earlier .three) [])
+    ∙ ap (ifPresent (earlier .one)) (if-present (earlier .two) _)
+    ∙ if-present (earlier .one) _
 
 -- ---- an answered day: where none of the refusals holds, the numbers are what the sheet's nearness asks for
 
@@ -112,7 +127,10 @@ module _ (st : Station) (day : Day) (earlier : Earlier) (constants : SignedConst
 
   within-proved : Within provedBound st day earlier (figureOf st day earlier)
   unfolding Within FigureNear inputsOf readingsOf entriesOf earlierOf clearOf figureOf
-  within-proved = figure-near (readingsOf day) (entriesOf st day) (meansOf earlier) (constantsOf st day) accepted
+  within-proved α a1 aw bw P x hα ha1 haw hbw hP hx =
+      subst (λ Fs. absℚ (fromℤ (pos (figureOf st day earlier)) *ℚ 1 /ℚ 10000 -ℚ value (nearness.inputsOf (readingsOf day) Fs (constantsOf st day) α a1 aw bw P x)) ≤ℚ provedBound)
+      (sym (same-means earlier))
+      (figure-near (readingsOf day) (entriesOf st day) (meansOf earlier) (constantsOf st day) accepted α a1 aw bw P x hα ha1 haw hbw hP hx)
 
   -- the demanded bound is the larger
   pub within-bound : WithinBound st day earlier (figureOf st day earlier)

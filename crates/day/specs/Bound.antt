@@ -1,6 +1,6 @@
 -- Demand 3 for a day handed in alone: an answered day gets a figure within 6/100,000 of an inch of the unrounded equation. What is proved is
 -- sharper: 5.15/100,000. Assumes nothing.
-use mathlib.Core.List.{map}
+use mathlib.Core.List.{List, [], _∷_}
 use mathlib.Core.Path.{_≡_}
 use Prim.Native.Nat.{ℕ}
 use lib.IntN.{pos}
@@ -14,12 +14,22 @@ use Rattle.sheet.specs.Quantities as quantities
 use Rattle.equation.specs.Equation.{Inputs, value}
 use Rattle.equation.specs.Equation as equation
 use Rattle.equation.specs.Nearness.{tenths}
-use Rattle.day.specs.Judgement.{meansOf, Answered}
+use Rattle.day.specs.Judgement.{Answered}
 use Rattle.day.specs.declared.Station.{Station}
 use Rattle.day.specs.declared.Day.{Day}
+use Rattle.day.specs.declared.Mean.{Mean}
+use Rattle.day.specs.declared.Mean.the-variants.{Present, Absent}
 use Rattle.day.specs.declared.Earlier.{Earlier}
 use Rattle.day.specs.declared.Verdict.{Verdict}
 use Rattle.day.specs.declared.Verdict.the-variants.{Figure}
+
+-- "the earlier means present", in °F: of the three calendar days before, those that have one
+abbrev pub ifPresent : Mean → List ℚ → List ℚ
+ifPresent (Present f) Fs = tenths f ∷ Fs
+ifPresent Absent Fs = Fs
+
+abbrev pub earlierMeans : Earlier → List ℚ
+earlierMeans earlier = ifPresent (earlier .one) (ifPresent (earlier .two) (ifPresent (earlier .three) []))
 
 -- what the equation is fed: the readings in °F, cal and miles, the station's fields in their units, the earlier means present, the values behind
 -- the tables' entries, and x
@@ -39,7 +49,7 @@ inputsOf st day earlier α a1 aw bw P x =
       c4 = fromℤ (st .c4) *ℚ 1 /ℚ 1000000;
       c5 = fromℤ (st .c5) *ℚ 1 /ℚ 1000000000;
       clearMinimum = fromℤ (pos (st .minimum));
-      earlier = map tenths (meansOf earlier);
+      earlier = earlierMeans earlier;
       α = α;
       a1 = a1;
       aw = aw;

@@ -67,9 +67,10 @@ pub record Accepted (x : Readings) (t : Entries) (fs : List ℤ) (c : Constants)
   pub constants : ConstantsInRange c
   pub below : sheet.aboveTwiceClear (x .radiation) (clearDay c) ≡ false
 
--- what the equation is fed: the readings in °F, cal and miles, the constants in their units, the earlier means; what the entries stand for; and x
-abbrev pub inputsOf : Readings → List ℤ → Constants → ℚ → ℚ → ℚ → ℚ → ℚ → ℚ → Inputs
-inputsOf r fs c α a1 aw bw P x =
+-- what the equation is fed: the readings in °F, cal and miles, the earlier means in °F, the constants in their units; what the entries stand for; and
+-- x
+abbrev pub inputsOf : Readings → List ℚ → Constants → ℚ → ℚ → ℚ → ℚ → ℚ → ℚ → Inputs
+inputsOf r Fs c α a1 aw bw P x =
     record {
       d = fromℤ (c .d);
       maximum = tenths (r .maximum);
@@ -84,7 +85,7 @@ inputsOf r fs c α a1 aw bw P x =
       c4 = fromℤ (c .c4) *ℚ 1 /ℚ 1000000;
       c5 = fromℤ (c .c5) *ℚ 1 /ℚ 1000000000;
       clearMinimum = fromℤ (c .minimum);
-      earlier = map tenths fs;
+      earlier = Fs;
       α = α;
       a1 = a1;
       aw = aw;
@@ -108,4 +109,4 @@ FigureNear r t fs c =
     HalfUnit billionth (natAbs (t .bw)) bw →
     HalfUnit tenthPascal (natAbs (t .p)) P →
     RootOf (1 /ℚ 100000000) (equation.e (tenths (r .dewpoint))) x →
-    absℚ (fromℤ (pos (figureOf r t fs c)) *ℚ 1 /ℚ 10000 -ℚ value (inputsOf r fs c α a1 aw bw P x)) ≤ℚ fraction bound
+    absℚ (fromℤ (pos (figureOf r t fs c)) *ℚ 1 /ℚ 10000 -ℚ value (inputsOf r (map tenths fs) c α a1 aw bw P x)) ≤ℚ fraction bound
