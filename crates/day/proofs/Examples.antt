@@ -1,6 +1,6 @@
--- Values worked by hand. `marked` is one table of every value that document 01 marks to be proved. `days` are two days worked through: the one of
--- the document's log that gets a figure, and a summer day at the same station. Both are answered, so what `judged-within-bound` asks can be met.
--- Assumes nothing.
+-- Values worked by hand. `marked` is one table of every value that document 01 marks to be proved. `days` are three days worked through: the one of
+-- the document's log that gets a figure, and a summer day at the same station after two and after three earlier means. All are answered, so what
+-- `judged-within-bound` asks can be met. Assumes nothing.
 use mathlib.Core.Path.{_≡_, refl, sym, _∙_, ap, ap₂, subst}
 use mathlib.Core.Bool.{Bool, false, cond}
 use mathlib.Core.List.{List, [], _∷_, map}
@@ -197,6 +197,10 @@ summerDay = record { year = 2008; d = 180; maximum = pos 900; minimum = pos 550;
 abbrev summerMeans : Earlier
 summerMeans = record { one = Present (pos 710); two = Present (pos 700); three = Absent }
 
+-- the same after three means that differ: without one of them, or with one in another's place, the figure is another
+abbrev threeMeans : Earlier
+threeMeans = record { one = Present (pos 850); two = Present (pos 610); three = Present (pos 455) }
+
 -- the entries at the two days
 abbrev winterEntries : ℕ → Entries
 winterEntries p = record { albedo = pos 346_410_155; a1 = pos 260_157_000; aw = pos 400_630_537; bw = pos 7_000_957; p = pos p }
@@ -215,9 +219,10 @@ roots = (
   root-at (pos 500) 12_291_883_230_000_000 110_868_765 refl (record { low = lit≤ tt; high = lit< tt }),
 )
 
-pub days : Worked station winterDay winterMeans 0 × Worked station summerDay summerMeans 3_518
+pub days : Worked station winterDay winterMeans 0 × Worked station summerDay summerMeans 3_518 × Worked station summerDay threeMeans 3_356
 unfolding holds isDate yearLength readingsOf clearOf meansOf earlierOf sheet.sumOf sheet.clearSum sheet.Q sheet.aboveTwiceClear sheet.sumBelowOne sheet.U sheet.V2 sheet.V4 sheet.V6 sheet.V7 sheet.V8 sheet.e sheet.D sheet.M sheet.g sheet.w1 sheet.w2 sheet.ρ sheet.K sheet.N sheet.fourthPower sheet.B sheet.emittance sheet.Rb sheet.S sheet.Rn sheet.soilHeat sheet.H sheet.countedWind sheet.Wf sheet.«V» sheet.T sheet.drying sheet.A sheet.Figure
 days = (
   worked station winterDay winterMeans (winterEntries 954_675) (entries .0) constants (roots .0) refl refl,
   worked station summerDay summerMeans (summerEntries 954_675) (entries .1) constants (roots .1) refl refl,
+  worked station summerDay threeMeans (summerEntries 954_675) (entries .1) constants (roots .1) refl refl,
 )

@@ -3,4 +3,5 @@ pub mod Tests
 pub mod Passed
 pub mod Standings
 pub mod DayBound
+pub mod Edges
 pub mod Examples

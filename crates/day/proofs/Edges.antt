@@ -1,0 +1,237 @@
+-- Days on both sides of each edge of the refusals 3 and 6 to 10, in one table with one statement over it, `edges`. A refusal that is made wider or
+-- narrower breaks it, even where definition and code agree. Assumes nothing.
+use mathlib.Core.Path.{_≡_, refl}
+use mathlib.Core.Bool.{Bool, true, false, cond}
+use mathlib.Core.List.{List, [], _∷_, map}
+use Prim.Native.Nat.{ℕ, suc}
+use native.Mathlib.Omega.{arith}
+use lib.IntN.{ℤ, pos, negsuc}
+use Rattle.sheet.specs.StepSheet as sheet
+use Rattle.day.specs.Calendar.{yearLength, isDate}
+use Rattle.day.specs.Rules.{numberOf}
+use Rattle.day.specs.Judgement.{clearOf, holds, firstOf, inOrder, judged}
+use Rattle.day.specs.declared.Station.{Station}
+use Rattle.day.specs.declared.Day.{Day}
+use Rattle.day.specs.declared.Mean.{Mean}
+use Rattle.day.specs.declared.Mean.the-variants.{Present, Absent}
+use Rattle.day.specs.declared.Earlier.{Earlier}
+use Rattle.day.specs.declared.Refusal.{Refusal}
+use Rattle.day.specs.declared.Refusal.the-variants.{StationField, BadDate, Missing, OutOfRange, OutOfOrder, AboveClear, SumBelowOne}
+use Rattle.day.specs.declared.Verdict.{Verdict}
+use Rattle.day.specs.declared.Verdict.the-variants.{Figure, Refused}
+
+-- ---- the number that a day is refused with
+
+-- refusal 11 wants the pressure, which is a search and is not computed: it is left out, and comes after the others
+abbrev heldBefore : Station → Day → Earlier → Refusal → Bool
+heldBefore st day earlier StationField = holds StationField st day earlier
+heldBefore st day earlier BadDate = holds BadDate st day earlier
+heldBefore st day earlier Missing = holds Missing st day earlier
+heldBefore st day earlier OutOfRange = holds OutOfRange st day earlier
+heldBefore st day earlier OutOfOrder = holds OutOfOrder st day earlier
+heldBefore st day earlier AboveClear = holds AboveClear st day earlier
+heldBefore st day earlier SumBelowOne = false
+
+-- the number of a verdict's refusal, 0 for a figure
+abbrev numberIn : Verdict → ℕ
+numberIn (Figure n) = 0
+numberIn (Refused r) = numberOf r
+
+-- the number of the first of 3 and 6 to 10 that holds, 0 for none
+abbrev refusedWith : Station → Day → Earlier → ℕ
+refusedWith st day earlier = numberIn (firstOf inOrder (heldBefore st day earlier) (Figure 0))
+
+-- a day that is so refused is judged with that number
+first-stays : (rs : List Refusal) (held : Refusal → Bool) (verdict : Verdict) (n : ℕ) → numberIn (firstOf rs held (Figure 0)) ≡ suc n →
+    numberIn (firstOf rs held verdict) ≡ suc n
+first-stays [] held verdict n e = absurd (omega (arith, e))
+first-stays (r ∷ rs) held verdict n e = by (held r) (first-stays rs held verdict n) e
+  where
+    by : (b : Bool) → (numberIn (firstOf rs held (Figure 0)) ≡ suc n → numberIn (firstOf rs held verdict) ≡ suc n) →
+        numberIn (cond b (Refused r) (firstOf rs held (Figure 0))) ≡ suc n → numberIn (cond b (Refused r) (firstOf rs held verdict)) ≡ suc n
+    by true rest e = e
+    by false rest e = rest e
+
+refused-is-judged : (st : Station) (day : Day) (earlier : Earlier) (n : ℕ) → refusedWith st day earlier ≡ suc n →
+    numberIn (judged st day earlier) ≡ suc n
+unfolding judged
+refused-is-judged st day earlier n =
+    first-stays (StationField ∷ BadDate ∷ Missing ∷ OutOfRange ∷ OutOfOrder ∷ AboveClear ∷ []) (λ r. holds r st day earlier) _ n
+
+-- ---- stations, days and earlier means
+
+-- document 01's LIDW, but for the first letter, the clear-day minimum and the elevation
+abbrev station : ℕ → ℕ → ℕ → Station
+station letter minimum elevation =
+    record {
+      code = record { first = letter; second = 73; third = 68; fourth = 87 };
+      c1 = pos 154;
+      c2 = pos 1_760;
+      c3 = pos 614;
+      c4 = negsuc 395;
+      c5 = pos 590;
+      minimum = minimum;
+      elevation = elevation;
+    }
+
+abbrev lidw : Station
+lidw = station 76 100 497
+
+-- one with a clear day of 500 cal/cm²/d all year
+abbrev even : Station
+even =
+    record {
+      code = record { first = 76; second = 73; third = 68; fourth = 87 };
+      c1 = pos 500;
+      c2 = pos 0;
+      c3 = pos 0;
+      c4 = pos 0;
+      c5 = pos 0;
+      minimum = 100;
+      elevation = 497;
+    }
+
+-- a dark day at any date
+abbrev dated : ℕ → ℕ → Day
+dated year d = record { year = year; d = d; maximum = pos 320; minimum = pos 320; mean = pos 320; dewpoint = pos 320; radiation = pos 0; wind = pos 0 }
+
+-- day 180 of 2008 with any readings: maximum, minimum, mean, dew point, radiation and wind; and a summer's, but for one of them
+abbrev reading : ℤ → ℤ → ℤ → ℤ → ℤ → ℤ → Day
+reading maximum minimum mean dewpoint radiation wind =
+    record {
+      year = 2008;
+      d = 180;
+      maximum = maximum;
+      minimum = minimum;
+      mean = mean;
+      dewpoint = dewpoint;
+      radiation = radiation;
+      wind = wind;
+    }
+
+abbrev withMaximum : ℤ → Day
+withMaximum z = reading z (pos 550) (pos 720) (pos 500) (pos 7_000) (pos 1_000)
+
+abbrev withMinimum : ℤ → Day
+withMinimum z = reading (pos 900) z (pos 720) (pos 500) (pos 7_000) (pos 1_000)
+
+abbrev withMean : ℤ → Day
+withMean z = reading (pos 900) (pos 550) z (pos 500) (pos 7_000) (pos 1_000)
+
+abbrev withDewpoint : ℤ → Day
+withDewpoint z = reading (pos 900) (pos 550) (pos 720) z (pos 7_000) (pos 1_000)
+
+abbrev withRadiation : ℤ → Day
+withRadiation z = reading (pos 900) (pos 550) (pos 720) (pos 500) z (pos 1_000)
+
+abbrev withWind : ℤ → Day
+withWind z = reading (pos 900) (pos 550) (pos 720) (pos 500) (pos 7_000) z
+
+abbrev means : Mean → Mean → Mean → Earlier
+means one two three = record { one = one; two = two; three = three }
+
+-- ---- the table
+
+-- the number for a station, for a day at LIDW, and for earlier means there
+abbrev atStation : Station → ℕ
+atStation st = refusedWith st (dated 2008 180) (means Absent Absent Absent)
+
+abbrev onDay : Day → ℕ
+onDay day = refusedWith lidw day (means Absent Absent Absent)
+
+abbrev after : Mean → Mean → Mean → ℕ
+after one two three = refusedWith lidw (dated 2008 180) (means one two three)
+
+infix 2 _gives_
+data Row : Type 0 where
+  _gives_ : ℕ → ℕ → Row
+
+abbrev given : Row → ℕ
+given (n gives k) = n
+
+abbrev written : Row → ℕ
+written (n gives k) = k
+
+abbrev table : List Row
+table =
+    -- 3: a letter of the code, the minimum, the elevation
+    (atStation (station 64 100 497) gives 3)
+    ∷ (atStation (station 65 100 497) gives 0)
+    ∷ (atStation (station 90 100 497) gives 0)
+    ∷ (atStation (station 91 100 497) gives 3)
+    ∷ (atStation (station 76 49 497) gives 3)
+    ∷ (atStation (station 76 50 497) gives 0)
+    ∷ (atStation (station 76 200 497) gives 0)
+    ∷ (atStation (station 76 201 497) gives 3)
+    ∷ (atStation (station 76 100 3_000) gives 0)
+    ∷ (atStation (station 76 100 3_001) gives 3)
+    -- 6: the years, and the days of a leap year and of a common one
+    ∷ (onDay (dated 1949 1) gives 6)
+    ∷ (onDay (dated 1950 1) gives 0)
+    ∷ (onDay (dated 2099 365) gives 0)
+    ∷ (onDay (dated 2100 1) gives 6)
+    ∷ (onDay (dated 2008 0) gives 6)
+    ∷ (onDay (dated 2008 366) gives 0)
+    ∷ (onDay (dated 2008 367) gives 6)
+    ∷ (onDay (dated 2007 365) gives 0)
+    ∷ (onDay (dated 2007 366) gives 6)
+    ∷ (onDay (dated 2000 366) gives 0)
+    -- 7: the mark -32,768 in each of the six readings; -32,767 is a number, out of range
+    ∷ (onDay (withMaximum (negsuc 32_767)) gives 7)
+    ∷ (onDay (withMaximum (negsuc 32_766)) gives 8)
+    ∷ (onDay (withMinimum (negsuc 32_767)) gives 7)
+    ∷ (onDay (withMinimum (negsuc 32_766)) gives 8)
+    ∷ (onDay (withMean (negsuc 32_767)) gives 7)
+    ∷ (onDay (withMean (negsuc 32_766)) gives 8)
+    ∷ (onDay (withDewpoint (negsuc 32_767)) gives 7)
+    ∷ (onDay (withDewpoint (negsuc 32_766)) gives 8)
+    ∷ (onDay (withRadiation (negsuc 32_767)) gives 7)
+    ∷ (onDay (withRadiation (negsuc 32_766)) gives 8)
+    ∷ (onDay (withWind (negsuc 32_767)) gives 7)
+    ∷ (onDay (withWind (negsuc 32_766)) gives 8)
+    -- 8: all readings at the low and at the high ends of their ranges, and each beyond one of them
+    ∷ (onDay (reading (negsuc 93) (negsuc 93) (negsuc 93) (negsuc 93) (pos 0) (pos 0)) gives 0)
+    ∷ (onDay (reading (pos 1_291) (pos 1_291) (pos 1_291) (pos 1_291) (pos 12_000) (pos 9_999)) gives 0)
+    ∷ (onDay (withMaximum (negsuc 94)) gives 8)
+    ∷ (onDay (withMaximum (pos 1_292)) gives 8)
+    ∷ (onDay (withMinimum (negsuc 94)) gives 8)
+    ∷ (onDay (withMinimum (pos 1_292)) gives 8)
+    ∷ (onDay (withMean (negsuc 94)) gives 8)
+    ∷ (onDay (withMean (pos 1_292)) gives 8)
+    ∷ (onDay (withDewpoint (negsuc 94)) gives 8)
+    ∷ (onDay (withDewpoint (pos 1_292)) gives 8)
+    ∷ (onDay (withRadiation (negsuc 0)) gives 8)
+    ∷ (onDay (withRadiation (pos 12_001)) gives 8)
+    ∷ (onDay (withWind (negsuc 0)) gives 8)
+    ∷ (onDay (withWind (pos 10_000)) gives 8)
+    -- 8: an earlier mean, for which -32,768 is no mark
+    ∷ (after (Present (negsuc 93)) Absent Absent gives 0)
+    ∷ (after (Present (pos 1_291)) Absent Absent gives 0)
+    ∷ (after (Present (negsuc 94)) Absent Absent gives 8)
+    ∷ (after (Present (pos 1_292)) Absent Absent gives 8)
+    ∷ (after (Present (negsuc 32_767)) Absent Absent gives 8)
+    ∷ (after Absent (Present (negsuc 93)) Absent gives 0)
+    ∷ (after Absent (Present (negsuc 94)) Absent gives 8)
+    ∷ (after Absent Absent (Present (negsuc 93)) gives 0)
+    ∷ (after Absent Absent (Present (negsuc 94)) gives 8)
+    -- 9: the minimum and the mean, the mean and the maximum, the dew point and the maximum
+    ∷ (onDay (withMinimum (pos 720)) gives 0)
+    ∷ (onDay (withMinimum (pos 721)) gives 9)
+    ∷ (onDay (withMean (pos 900)) gives 0)
+    ∷ (onDay (withMean (pos 901)) gives 9)
+    ∷ (onDay (withDewpoint (pos 900)) gives 0)
+    ∷ (onDay (withDewpoint (pos 901)) gives 9)
+    -- 10: twice a clear day of 500 cal/cm²/d
+    ∷ (refusedWith even (withRadiation (pos 10_000)) (means Absent Absent Absent) gives 0)
+    ∷ (refusedWith even (withRadiation (pos 10_001)) (means Absent Absent Absent) gives 10)
+    -- where two hold, the first in order: 3 and 6, 6 and 8, 7 and 8, 8 and 9, 9 and 10
+    ∷ (refusedWith (station 64 100 497) (dated 2100 1) (means Absent Absent Absent) gives 3)
+    ∷ (refusedWith lidw (dated 2100 1) (means (Present (negsuc 94)) Absent Absent) gives 6)
+    ∷ (onDay (reading (negsuc 32_767) (pos 550) (pos 720) (pos 500) (pos 7_000) (negsuc 0)) gives 7)
+    ∷ (onDay (withMinimum (pos 1_292)) gives 8)
+    ∷ (refusedWith even (reading (pos 900) (pos 721) (pos 720) (pos 500) (pos 10_001) (pos 1_000)) (means Absent Absent Absent) gives 9)
+    ∷ []
+
+edges : map given table ≡ map written table
+unfolding holds isDate yearLength clearOf sheet.clearSum sheet.Q sheet.aboveTwiceClear
+edges = refl
