@@ -18,7 +18,7 @@ use Rattle.equation.specs.Nearness.{tenths, Constants, ConstantsInRange, AllTem
 use Rattle.equation.proofs.Nearness.{figure-near}
 use Rattle.day.specs.Rules.{meanFault}
 use Rattle.day.specs.Judgement.{readingsOf, entriesOf, clearOf, withMean, meansOf, earlierOf, figureOf, holds, firstOf, inOrder, judged, Answered}
-use Rattle.day.specs.Bound.{ifPresent, earlierMeans, inputsOf, Within, WithinBound, provedBound, SignedConstants, FigureOwed, JudgesWithinBound}
+use Rattle.day.specs.Bound.{ifPresent, meansPresent, inputsOf, Within, WithinBound, provedBound, SignedConstants, FigureOwed, JudgesWithinBound}
 use Rattle.day.specs.declared.Station.{Station}
 use Rattle.day.specs.declared.Day.{Day}
 use Rattle.day.specs.declared.Mean.{Mean}
@@ -52,7 +52,7 @@ if-present : (m : Mean) (fs : List ℤ) → ifPresent m (map tenths fs) ≡ map 
 if-present (Present f) fs = refl
 if-present Absent fs = refl
 
-same-means : (earlier : Earlier) → earlierMeans earlier ≡ map tenths (meansOf earlier)
+same-means : (earlier : Earlier) → meansPresent earlier ≡ map tenths (meansOf earlier)
 unfolding meansOf
 same-means earlier =
     ap (λ Fs. ifPresent (earlier .one) (ifPresent (earlier .two) Fs)) (if-present (earlier .three) [])

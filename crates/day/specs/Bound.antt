@@ -28,8 +28,8 @@ abbrev pub ifPresent : Mean → List ℚ → List ℚ
 ifPresent (Present f) Fs = tenths f ∷ Fs
 ifPresent Absent Fs = Fs
 
-abbrev pub earlierMeans : Earlier → List ℚ
-earlierMeans earlier = ifPresent (earlier .one) (ifPresent (earlier .two) (ifPresent (earlier .three) []))
+abbrev pub meansPresent : Earlier → List ℚ
+meansPresent earlier = ifPresent (earlier .one) (ifPresent (earlier .two) (ifPresent (earlier .three) []))
 
 -- what the equation is fed: the readings in °F, cal and miles, the station's fields in their units, the earlier means present, the values behind
 -- the tables' entries, and x
@@ -49,7 +49,7 @@ inputsOf st day earlier α a1 aw bw P x =
       c4 = fromℤ (st .c4) *ℚ 1 /ℚ 1000000;
       c5 = fromℤ (st .c5) *ℚ 1 /ℚ 1000000000;
       clearMinimum = fromℤ (pos (st .minimum));
-      earlier = earlierMeans earlier;
+      earlier = meansPresent earlier;
       α = α;
       a1 = a1;
       aw = aw;
