@@ -1,8 +1,8 @@
 -- An answered day's figure is within the bound: that none of the refusals holds gives every range that `figure-near` asks for. The theorems are
 -- `judged-within-proved`, at the sharper bound, and `judged-within-bound`, at the demanded one. Assumes nothing.
 use mathlib.Core.Path.{_≡_, refl, sym, _∙_, ap, subst}
-use mathlib.Core.Bool.{Bool, false, cond}
-use mathlib.Core.List.{List, [], _∷_, map}
+use mathlib.Core.Bool.{false}
+use mathlib.Core.List.{List, [], map}
 use Prim.Native.Nat.{ℕ, suc, _≤_, zero-le, suc-le-suc}
 use native.Mathlib.Omega.{arith}
 use lib.IntN.{ℤ, pos}
@@ -17,7 +17,7 @@ use Rattle.equation.specs.Nearness as nearness
 use Rattle.equation.specs.Nearness.{tenths, Constants, ConstantsInRange, AllTemperatures, none, more, Accepted, bound, FigureNear}
 use Rattle.equation.proofs.Nearness.{figure-near}
 use Rattle.day.specs.Rules.{meanFault}
-use Rattle.day.specs.Judgement.{readingsOf, entriesOf, clearOf, withMean, meansOf, earlierOf, figureOf, holds, firstOf, inOrder, judged, Answered}
+use Rattle.day.specs.Judgement.{readingsOf, entriesOf, clearOf, withMean, meansOf, earlierOf, figureOf, holds, judged, Answered}
 use Rattle.day.specs.Bound.{ifPresent, meansPresent, inputsOf, Within, WithinBound, provedBound, SignedConstants, FigureOwed, JudgesWithinBound}
 use Rattle.day.specs.declared.Station.{Station}
 use Rattle.day.specs.declared.Day.{Day}
@@ -26,8 +26,7 @@ use Rattle.day.specs.declared.Mean.the-variants.{Present, Absent}
 use Rattle.day.specs.declared.Earlier.{Earlier}
 use Rattle.day.specs.declared.Refusal.{Refusal}
 use Rattle.day.specs.declared.Refusal.the-variants.{StationField, BadDate, OutOfRange, OutOfOrder, AboveClear}
-use Rattle.day.specs.declared.Verdict.{Verdict}
-use Rattle.day.specs.declared.Verdict.the-variants.{Figure, Refused}
+use Rattle.day.specs.declared.Verdict.the-variants.{Figure}
 use Rattle.day.proofs.Standings.{answered-figure}
 use Rattle.day.proofs.Tests.{passed}
 use Rattle.day.proofs.Passed as passed-tests

@@ -1,7 +1,6 @@
 -- Days on both sides of each edge of the refusals 3 and 6 to 10, in one table with one statement over it, `edges`. A refusal that is made wider or
 -- narrower breaks it, even where definition and code agree. Assumes nothing.
-use mathlib.Core.Path.{_≡_, refl}
-use mathlib.Core.Bool.{Bool, true, false, cond}
+use mathlib.Core.Path.{_≡_, refl, ap, _∙_}
 use mathlib.Core.List.{List, [], _∷_, map}
 use Prim.Native.Nat.{ℕ, suc}
 use native.Mathlib.Omega.{arith}
@@ -9,54 +8,40 @@ use lib.IntN.{ℤ, pos, negsuc}
 use Rattle.sheet.specs.StepSheet as sheet
 use Rattle.day.specs.Calendar.{yearLength, isDate}
 use Rattle.day.specs.Rules.{numberOf}
-use Rattle.day.specs.Judgement.{clearOf, holds, firstOf, inOrder, judged}
+use Rattle.day.specs.Judgement.{clearOf, holds, firstOf, standingOf}
 use Rattle.day.specs.declared.Station.{Station}
 use Rattle.day.specs.declared.Day.{Day}
 use Rattle.day.specs.declared.Mean.{Mean}
 use Rattle.day.specs.declared.Mean.the-variants.{Present, Absent}
 use Rattle.day.specs.declared.Earlier.{Earlier}
-use Rattle.day.specs.declared.Refusal.{Refusal}
 use Rattle.day.specs.declared.Refusal.the-variants.{StationField, BadDate, Missing, OutOfRange, OutOfOrder, AboveClear, SumBelowOne}
-use Rattle.day.specs.declared.Verdict.{Verdict}
-use Rattle.day.specs.declared.Verdict.the-variants.{Figure, Refused}
+use Rattle.day.specs.declared.Standing.{Standing}
+use Rattle.day.specs.declared.Standing.the-variants as standing
+use Rattle.day.proofs.Standings.{orElse, first-then}
 
 -- ---- the number that a day is refused with
 
--- refusal 11 wants the pressure, which is a search and is not computed: it is left out, and comes after the others
-abbrev heldBefore : Station → Day → Earlier → Refusal → Bool
-heldBefore st day earlier StationField = holds StationField st day earlier
-heldBefore st day earlier BadDate = holds BadDate st day earlier
-heldBefore st day earlier Missing = holds Missing st day earlier
-heldBefore st day earlier OutOfRange = holds OutOfRange st day earlier
-heldBefore st day earlier OutOfOrder = holds OutOfOrder st day earlier
-heldBefore st day earlier AboveClear = holds AboveClear st day earlier
-heldBefore st day earlier SumBelowOne = false
+-- the number of the refusal, 0 for an answered day
+abbrev numberIn : Standing → ℕ
+numberIn (standing.Refused r) = numberOf r
+numberIn standing.Answered = 0
 
--- the number of a verdict's refusal, 0 for a figure
-abbrev numberIn : Verdict → ℕ
-numberIn (Figure n) = 0
-numberIn (Refused r) = numberOf r
-
--- the number of the first of 3 and 6 to 10 that holds, 0 for none
+-- the number of the first of 3 and 6 to 10 that holds, 0 for none. Refusal 11 wants the pressure, which is a search and is not computed.
 abbrev refusedWith : Station → Day → Earlier → ℕ
-refusedWith st day earlier = numberIn (firstOf inOrder (heldBefore st day earlier) (Figure 0))
+refusedWith st day earlier =
+    numberIn (firstOf (StationField ∷ BadDate ∷ Missing ∷ OutOfRange ∷ OutOfOrder ∷ AboveClear ∷ []) (λ r. holds r st day earlier))
 
 -- a day that is so refused is judged with that number
-first-stays : (rs : List Refusal) (held : Refusal → Bool) (verdict : Verdict) (n : ℕ) → numberIn (firstOf rs held (Figure 0)) ≡ suc n →
-    numberIn (firstOf rs held verdict) ≡ suc n
-first-stays [] held verdict n e = absurd (omega (arith, e))
-first-stays (r ∷ rs) held verdict n e = by (held r) (first-stays rs held verdict n) e
-  where
-    by : (b : Bool) → (numberIn (firstOf rs held (Figure 0)) ≡ suc n → numberIn (firstOf rs held verdict) ≡ suc n) →
-        numberIn (cond b (Refused r) (firstOf rs held (Figure 0))) ≡ suc n → numberIn (cond b (Refused r) (firstOf rs held verdict)) ≡ suc n
-    by true rest e = e
-    by false rest e = rest e
-
 refused-is-judged : (st : Station) (day : Day) (earlier : Earlier) (n : ℕ) → refusedWith st day earlier ≡ suc n →
-    numberIn (judged st day earlier) ≡ suc n
-unfolding judged
-refused-is-judged st day earlier n =
-    first-stays (StationField ∷ BadDate ∷ Missing ∷ OutOfRange ∷ OutOfOrder ∷ AboveClear ∷ []) (λ r. holds r st day earlier) _ n
+    numberIn (standingOf st day earlier) ≡ suc n
+unfolding standingOf
+refused-is-judged st day earlier n e =
+    ap numberIn (first-then (StationField ∷ BadDate ∷ Missing ∷ OutOfRange ∷ OutOfOrder ∷ AboveClear ∷ []) (SumBelowOne ∷ []) (λ r. holds r st day earlier))
+    ∙ stays (firstOf (StationField ∷ BadDate ∷ Missing ∷ OutOfRange ∷ OutOfOrder ∷ AboveClear ∷ []) (λ r. holds r st day earlier)) _ e
+  where
+    stays : (s t : Standing) → numberIn s ≡ suc n → numberIn (orElse s t) ≡ suc n
+    stays (standing.Refused r) t e = e
+    stays standing.Answered t e = absurd (omega (arith, e))
 
 -- ---- stations, days and earlier means
 

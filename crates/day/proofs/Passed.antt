@@ -15,7 +15,7 @@ use Rattle.sheet.specs.Quantities as quantities
 use Rattle.sheet.specs.Accepted.{ReadingsInRange, EntriesInRange}
 use Rattle.tables.proofs.ValueRanges.{albedo-in, a1-in, aw-in, bw-in, pressure-in}
 use Rattle.day.specs.Calendar.{yearLength, isDate}
-use Rattle.day.specs.Rules.{anyOf, badStation, stationFaults, readingFaults, meanFault, orderFaults}
+use Rattle.day.specs.Rules.{anyOf, stationFaults, readingFaults, meanFault, orderFaults}
 use Rattle.day.specs.Judgement.{readingsOf, entriesAt, holds}
 use Rattle.day.specs.declared.Station.{Station}
 use Rattle.day.specs.declared.Day.{Day}

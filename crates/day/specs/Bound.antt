@@ -5,7 +5,7 @@ use mathlib.Core.Path.{_≡_}
 use Prim.Native.Nat.{ℕ}
 use lib.IntN.{pos}
 use Rattle.numbers.specs.Ranges.{InRange}
-use Rattle.numbers.specs.Fractions.{ℚ, fromℤ, _/ℚ_, _-ℚ_, _*ℚ_, _≤ℚ_, absℚ}
+use Rattle.numbers.specs.Fractions.{ℚ, fraction, fromℤ, _/ℚ_, _-ℚ_, _*ℚ_, _≤ℚ_, absℚ}
 use Rattle.numbers.specs.Rounding.{RootOf}
 use Rattle.tables.specs.Series.{HalfUnit}
 use Rattle.tables.specs.Tables.{billionth, tenthPascal}
@@ -13,7 +13,7 @@ use Rattle.tables.specs.Values.{albedoAt, a1At, awAt, bwAt, pressureAt}
 use Rattle.sheet.specs.Quantities as quantities
 use Rattle.equation.specs.Equation.{Inputs, value}
 use Rattle.equation.specs.Equation as equation
-use Rattle.equation.specs.Nearness.{tenths}
+use Rattle.equation.specs.Nearness.{tenths, bound}
 use Rattle.day.specs.Judgement.{Answered}
 use Rattle.day.specs.declared.Station.{Station}
 use Rattle.day.specs.declared.Day.{Day}
@@ -75,9 +75,9 @@ Within inches st day earlier n =
 unfoldable pub WithinBound : Station → Day → Earlier → ℕ → Type 0
 WithinBound = Within (6 /ℚ 100000)
 
--- the sharper one that is proved of every answered day
+-- the sharper one that is proved of every answered day: 515/10,000,000 of an inch
 abbrev pub provedBound : ℚ
-provedBound = 515 /ℚ 10000000
+provedBound = fraction bound
 
 -- c1 to c5 are signed numbers of two bytes, any of them
 pub record SignedConstants (st : Station) : Type 0 where
