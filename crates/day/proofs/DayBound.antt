@@ -31,7 +31,6 @@ use Rattle.day.proofs.Standings.{answered-figure}
 use Rattle.day.proofs.Tests.{passed}
 use Rattle.day.proofs.Passed as passed-tests
 
-
 -- ---- the earlier means that are present
 
 with-mean : (m : Mean) {fs : List ℤ} → meanFault m ≡ false → AllTemperatures fs → AllTemperatures (withMean m fs)

@@ -1,8 +1,7 @@
 // The heat that is there to use: the radiation that comes in, what goes out, and what the soil takes.
 ghost use mathlib.Core.Bool.{false};
 ghost use mathlib.Core.Path.{_≡_};
-ghost use lib.IntN.{pos, _*ℤ_};
-ghost use Rattle.numbers.specs.Ranges.{InRange, from_to_};
+ghost use Rattle.numbers.specs.Ranges.{InRange};
 ghost use Rattle.sheet.specs.Parts as parts;
 ghost use Rattle.sheet.specs.Quantities as quantities;
 ghost use Rattle.sheet.specs.StepSheet as sheet;
