@@ -7,7 +7,7 @@ pub mod Carried
 pub mod Placed
 pub mod Walked
 pub mod Along
-pub mod Glances
+pub mod Passed
 pub mod HandedBack
 pub mod RecordCases
 pub mod Stations
