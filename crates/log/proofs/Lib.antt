@@ -1,6 +1,4 @@
 -- The lemmas that belong to no one function.
-pub mod Choice
-pub mod Signed
 pub mod Overwriting
 pub mod Calendar
 pub mod Carried
@@ -9,7 +7,6 @@ pub mod Walked
 pub mod Along
 pub mod Passed
 pub mod HandedBack
-pub mod RecordCases
 pub mod Stations
 pub mod Days
 pub mod Demand

@@ -15,12 +15,12 @@ use Rattle.day.specs.declared.Refusal.the-variants.{BadDate, Missing}
 use Rattle.day.specs.declared.Verdict.the-variants.{Refused}
 use Rattle.day.proofs.Examples.{days}
 use Rattle.log.specs.Answers.{dayAnswer, verdictOf}
-use Rattle.log.specs.Bytes.{wordAt, signedOf, signedAt}
+use Rattle.records.specs.Bytes.{wordAt, signedOf, signedAt}
 use Rattle.log.specs.Days.{DayAt}
 use Rattle.log.specs.Demand.{AnsweredDay}
 use Rattle.log.specs.History.{daysBefore, goodDate, counted, earlierMeans}
 use Rattle.log.specs.Log.{badStation, readFrom, readingOf, entriesOf, outcomeOf, bufferAfter}
-use Rattle.log.specs.Record.{stationAt, dayAt, recordAt}
+use Rattle.records.specs.Record.{stationAt, dayAt, recordAt}
 use Rattle.log.proofs.Sample.{sample, station, third}
 
 -- day 12, the third: two earlier means, of days that are refused

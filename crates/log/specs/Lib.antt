@@ -1,6 +1,4 @@
 -- The definitions that the contracts of the log cite.
-pub mod Bytes
-pub mod Record
 pub mod History
 pub mod Answers
 pub mod Log

@@ -72,10 +72,10 @@ fn print_answer(answers: &[u8], walk: Walk) -> Walk {
     if left < 9 {
         return end;
     }
-    let year = log::records::word(answers, at + 1);
-    let d = log::records::word(answers, at + 3);
-    let value = (log::records::word(answers, at + 5) as u32) * 65_536
-        + (log::records::word(answers, at + 7) as u32);
+    let year = records::bytes::word(answers, at + 1);
+    let d = records::bytes::word(answers, at + 3);
+    let value = (records::bytes::word(answers, at + 5) as u32) * 65_536
+        + (records::bytes::word(answers, at + 7) as u32);
     let verdict = lines::answers::verdict_of(kind, value);
     Walk {
         at: at + 9,

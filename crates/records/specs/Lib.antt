@@ -1,0 +1,3 @@
+-- The definitions that the contracts of the record decoder cite.
+pub mod Bytes
+pub mod Record
