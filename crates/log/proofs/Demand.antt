@@ -14,7 +14,7 @@ use Rattle.day.specs.declared.Verdict.the-variants.{Figure}
 use Rattle.day.proofs.DayBound.{judged-within-bound}
 use Rattle.log.specs.Answers.{dayAnswer}
 use Rattle.log.specs.Demand.{AnsweredLog, AnsweredDay, FigureAt, FiguresOwed, EveryFigureWithinBound}
-use Rattle.log.specs.Log.{badStation, bufferAfter, Read}
+use Rattle.log.specs.Log.{bufferAfter, Read}
 use Rattle.log.specs.declared.Outcome.{Outcome}
 use Rattle.log.proofs.Days.{answer-at, good-in-calendar}
 use Rattle.log.proofs.Stations.{station-sound, station-constants}
@@ -22,7 +22,7 @@ use Rattle.log.proofs.Stations.{station-sound, station-constants}
 module _ {s : List ℕ} {i : ℕ} {st : Station} {x : Day} {earlier : Earlier} {place : ℕ} (d : AnsweredDay s i st x earlier place) where
   -- a log with a faulty station is refused, and a good date is one of the calendar: so none of the refusals holds
   none-holds : (r : Refusal) → holds r st x earlier ≡ false
-  unfolding holds badStation
+  unfolding holds
   none-holds StationField = station-sound s (d .at) .faultless
   none-holds BadDate = ap not (good-in-calendar (d .at) refl)
   none-holds Missing = d .others Missing tt

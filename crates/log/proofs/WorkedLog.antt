@@ -19,7 +19,7 @@ use Rattle.records.specs.Bytes.{wordAt, signedOf, signedAt}
 use Rattle.log.specs.Days.{DayAt}
 use Rattle.log.specs.Demand.{AnsweredDay}
 use Rattle.log.specs.History.{daysBefore, goodDate, counted, earlierMeans}
-use Rattle.log.specs.Log.{badStation, readFrom, readingOf, entriesOf, outcomeOf, bufferAfter}
+use Rattle.log.specs.Log.{readFrom, readingOf, entriesOf, outcomeOf, bufferAfter}
 use Rattle.records.specs.Record.{stationAt, dayAt, recordAt}
 use Rattle.log.proofs.Sample.{sample, station, third}
 
@@ -53,7 +53,7 @@ pub bytes : bufferAfter sample lent ≡
     ∷ 4 ∷ 7 ∷ 216 ∷ 0 ∷ 11 ∷ 0 ∷ 0 ∷ 0 ∷ 7
     ∷ 3 ∷ 7 ∷ 216 ∷ 0 ∷ 12 ∷ 0 ∷ 0 ∷ 0 ∷ 0
     ∷ 9 ∷ 9 ∷ []
-unfolding bufferAfter outcomeOf readingOf readFrom recordAt stationAt dayAt wordAt signedOf signedAt badStation isDate yearLength daysBefore goodDate counted earlierMeans verdictOf
+unfolding bufferAfter outcomeOf readingOf readFrom recordAt stationAt dayAt wordAt signedOf signedAt isDate yearLength daysBefore goodDate counted earlierMeans verdictOf
 bytes = λ i. answers (lacking .0 i) (lacking .1 i) (days .0 .verdict i) ++ (9 ∷ 9 ∷ [])
 
 -- ---- two blocks
@@ -75,7 +75,7 @@ twoBlocks =
 
 -- over the year's end: day 1 has the mean of day 365, whose day is refused
 pub year-end : DayAt twoBlocks 2 (stationAt twoBlocks 1) (dayAt twoBlocks 37) (record { one = Present (pos 200); two = Absent; three = Absent }) true 14
-unfolding readingOf readFrom recordAt stationAt dayAt wordAt signedOf signedAt badStation isDate yearLength daysBefore goodDate counted earlierMeans
+unfolding readingOf readFrom recordAt stationAt dayAt wordAt signedOf signedAt isDate yearLength daysBefore goodDate counted earlierMeans
 year-end =
     record {
       before = take 2 (entriesOf (readingOf twoBlocks));
@@ -107,7 +107,7 @@ pub two-blocks : bufferAfter twoBlocks room ≡
     ∷ 4 ∷ 7 ∷ 216 ∷ 0 ∷ 11 ∷ 0 ∷ 0 ∷ 0 ∷ 6
     ∷ 3 ∷ 7 ∷ 216 ∷ 0 ∷ 12 ∷ 0 ∷ 0 ∷ 0 ∷ 0
     ∷ drop 64 room
-unfolding bufferAfter outcomeOf readingOf readFrom recordAt stationAt dayAt wordAt signedOf signedAt badStation isDate yearLength daysBefore goodDate counted earlierMeans verdictOf
+unfolding bufferAfter outcomeOf readingOf readFrom recordAt stationAt dayAt wordAt signedOf signedAt isDate yearLength daysBefore goodDate counted earlierMeans verdictOf
 two-blocks =
     λ i.
     (5 ∷ 76 ∷ 73 ∷ 68 ∷ 88 ∷ [])
