@@ -10,7 +10,7 @@ use Rattle.numbers.specs.Rounding.{RootOf}
 use Rattle.tables.specs.Series.{HalfUnit}
 use Rattle.tables.specs.Tables.{billionth, tenthPascal}
 use Rattle.tables.specs.Values.{albedoAt, a1At, awAt, bwAt, pressureAt}
-use Rattle.sheet.specs.Quantities as quantities
+use Rattle.sheet.specs.Limits as limits
 use Rattle.equation.specs.Equation.{Inputs, value}
 use Rattle.equation.specs.Equation as equation
 use Rattle.equation.specs.Nearness.{tenths, bound}
@@ -81,11 +81,11 @@ provedBound = fraction bound
 
 -- c1 to c5 are signed numbers of two bytes, any of them
 pub record SignedConstants (st : Station) : Type 0 where
-  pub c1 : InRange quantities.signedWord (st .c1)
-  pub c2 : InRange quantities.signedWord (st .c2)
-  pub c3 : InRange quantities.signedWord (st .c3)
-  pub c4 : InRange quantities.signedWord (st .c4)
-  pub c5 : InRange quantities.signedWord (st .c5)
+  pub c1 : InRange limits.signedWord (st .c1)
+  pub c2 : InRange limits.signedWord (st .c2)
+  pub c3 : InRange limits.signedWord (st .c3)
+  pub c4 : InRange limits.signedWord (st .c4)
+  pub c5 : InRange limits.signedWord (st .c5)
 
 -- what is owed to an answered day: a figure and no refusal, within the bound
 unfoldable pub FigureOwed : Station → Day → Earlier → Verdict → Type 0

@@ -69,15 +69,6 @@ meansOf earlier = withMean (earlier .one) (withMean (earlier .two) (withMean (ea
 unfoldable pub earlierOf : Earlier → SheetEarlier
 earlierOf earlier = record { k = pos (length (meansOf earlier)); z = sumOf (meansOf earlier) }
 
--- one mean's part in them
-abbrev pub countOf : Mean → ℤ
-countOf (Present f) = pos 1
-countOf Absent = pos 0
-
-abbrev pub tenthsOf : Mean → ℤ
-tenthsOf (Present f) = f
-tenthsOf Absent = pos 0
-
 unfoldable pub figureOf : Station → Day → Earlier → ℕ
 figureOf st x earlier = natAbs (sheet.figure (readingsOf x) (entriesOf st x) (earlierOf earlier) (clearOf st x))
 

@@ -3,3 +3,4 @@ pub mod Calendar
 pub mod Rules
 pub mod Judgement
 pub mod Bound
+pub mod Parts

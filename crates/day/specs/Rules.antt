@@ -6,7 +6,7 @@ use lib.Dec.{ltb}
 use lib.IntN.{ℤ, negsuc}
 use lib.Signed.{ltZ, leZ}
 use Rattle.numbers.specs.Ranges.{inRange}
-use Rattle.sheet.specs.Quantities as quantities
+use Rattle.sheet.specs.Limits as limits
 use Rattle.day.specs.declared.Mean.{Mean}
 use Rattle.day.specs.declared.Mean.the-variants.{Present, Absent}
 use Rattle.day.specs.declared.Station.{Station}
@@ -57,16 +57,16 @@ missingMarks maximum minimum mean dewpoint radiation wind =
 -- 8: a reading out of range, or an earlier mean that is present but out of range
 abbrev pub readingFaults : ℤ → ℤ → ℤ → ℤ → ℤ → ℤ → List Bool
 readingFaults maximum minimum mean dewpoint radiation wind =
-    not (inRange quantities.temperature maximum)
-    ∷ not (inRange quantities.temperature minimum)
-    ∷ not (inRange quantities.temperature mean)
-    ∷ not (inRange quantities.temperature dewpoint)
-    ∷ not (inRange quantities.radiation radiation)
-    ∷ not (inRange quantities.wind wind)
+    not (inRange limits.temperature maximum)
+    ∷ not (inRange limits.temperature minimum)
+    ∷ not (inRange limits.temperature mean)
+    ∷ not (inRange limits.temperature dewpoint)
+    ∷ not (inRange limits.radiation radiation)
+    ∷ not (inRange limits.wind wind)
     ∷ []
 
 abbrev pub meanFault : Mean → Bool
-meanFault (Present f) = not (inRange quantities.temperature f)
+meanFault (Present f) = not (inRange limits.temperature f)
 meanFault Absent = false
 
 -- 9: minimum > mean, mean > maximum, or dew point > maximum

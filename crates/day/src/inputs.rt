@@ -10,7 +10,7 @@ ghost use Rattle.sheet.specs.Quantities as quantities;
 ghost use Rattle.sheet.specs.Accepted.{EarlierInRange};
 ghost use Rattle.day.specs.Rules.{meanFault};
 ghost use Rattle.day.specs.Judgement.{readingsOf, entriesAt, clearOf, earlierOf};
-ghost use Rattle.day.specs.Judgement.{countOf, tenthsOf};
+ghost use Rattle.day.specs.Parts.{countOf, tenthsOf};
 use crate::Day;
 use crate::Mean;
 use crate::Station;

@@ -1,7 +1,7 @@
 // The kinds of readings, each with its range.
 ghost use mathlib.Core.Path.{_≡_};
 ghost use Rattle.numbers.specs.Ranges.{inRange};
-ghost use Rattle.sheet.specs.Quantities as quantities;
+ghost use Rattle.sheet.specs.Limits as limits;
 
 // A temperature in tenths of a degree Fahrenheit.
 pub struct Temperature {
@@ -14,7 +14,7 @@ impl Temperature {
     pub const HIGH: i16 = 1_291;
 
     pub fn in_range(self) -> bool
-        ensures { λ r. ⌜ r ≡ inRange quantities.temperature (self .tenths) ⌝ }
+        ensures { λ r. ⌜ r ≡ inRange limits.temperature (self .tenths) ⌝ }
     {
         let t = self.tenths;
         Temperature::LOW <= t && t <= Temperature::HIGH
@@ -32,7 +32,7 @@ impl Radiation {
     pub const HIGH: i16 = 12_000;
 
     pub fn in_range(self) -> bool
-        ensures { λ r. ⌜ r ≡ inRange quantities.radiation (self .tenths) ⌝ }
+        ensures { λ r. ⌜ r ≡ inRange limits.radiation (self .tenths) ⌝ }
     {
         let t = self.tenths;
         Radiation::LOW <= t && t <= Radiation::HIGH
@@ -50,7 +50,7 @@ impl Wind {
     pub const HIGH: i16 = 9_999;
 
     pub fn in_range(self) -> bool
-        ensures { λ r. ⌜ r ≡ inRange quantities.wind (self .tenths) ⌝ }
+        ensures { λ r. ⌜ r ≡ inRange limits.wind (self .tenths) ⌝ }
     {
         let t = self.tenths;
         Wind::LOW <= t && t <= Wind::HIGH

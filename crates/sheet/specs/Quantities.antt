@@ -1,28 +1,9 @@
--- The range of each quantity of the step sheet, in the sheet's unit: between these the code is proved not to overflow. The readings' own ranges
--- are document 01's; the others are wide enough for what the readings can give, and no wider than the arithmetic needs. Assumes nothing.
+-- The range of each quantity of the step sheet, in the sheet's unit: between these the code is proved not to overflow. Those of Limits.antt are
+-- document 01's; the others are wide enough for what the readings can give, and no wider than the arithmetic needs. Assumes nothing.
 use Rattle.numbers.specs.Ranges.{Range, from_to_, minus_to_}
+pub use Rattle.sheet.specs.Limits.{temperature, radiation, wind, clearMinimum, dayOfYear, signedWord}
 
--- ---- the readings, in tenths
-
-abbrev pub temperature : Range
-temperature = minus 94 to 1_291
-
-abbrev pub radiation : Range
-radiation = from 0 to 12_000
-
-abbrev pub wind : Range
-wind = from 0 to 9_999
-
--- ---- the station's clear-day minimum, the day of the year, and the earlier means: their number and their sum
-
-abbrev pub clearMinimum : Range
-clearMinimum = from 50 to 200
-
-abbrev pub dayOfYear : Range
-dayOfYear = from 1 to 366
-
-abbrev pub signedWord : Range
-signedWord = minus 32_768 to 32_767
+-- ---- the earlier means: their number and their sum
 
 abbrev pub earlierCount : Range
 earlierCount = from 0 to 3

@@ -2,7 +2,7 @@
 use mathlib.Core.Path.{sym, ap}
 use native.Mathlib.Omega.{arith}
 use borrow.Author.Needs.{needs}
-use Rattle.day.specs.Judgement.{countOf}
+use Rattle.day.specs.Parts.{countOf}
 use Rattle.day.proofs.inputs.count_of.Statement.{statement}
 use Rattle.day.proofs.inputs.count_of.Tie as tie
 

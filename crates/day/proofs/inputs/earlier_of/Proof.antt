@@ -11,7 +11,8 @@ use Rattle.numbers.proofs.Reflection.{MachineExpression, arg, _+ᵐ_, Given, no
 use Rattle.sheet.specs.Quantities as quantities
 use Rattle.sheet.specs.StepSheet.{sumOf}
 use Rattle.sheet.proofs.Values.{ap₃}
-use Rattle.day.specs.Judgement.{withMean, meansOf, earlierOf, countOf, tenthsOf}
+use Rattle.day.specs.Judgement.{withMean, meansOf, earlierOf}
+use Rattle.day.specs.Parts.{countOf, tenthsOf}
 use Rattle.day.specs.declared.Mean.{Mean}
 use Rattle.day.specs.declared.Mean.the-variants.{Present, Absent}
 use Rattle.day.specs.declared.Earlier.{Earlier}

@@ -8,7 +8,7 @@ use Rattle.numbers.specs.Ranges.{InRange}
 use Rattle.sheet.specs.Quantities as quantities
 use Rattle.sheet.proofs.Values.{given-back, said}
 use Rattle.day.specs.Rules.{meanFault}
-use Rattle.day.specs.Judgement.{tenthsOf}
+use Rattle.day.specs.Parts.{tenthsOf}
 use Rattle.day.proofs.Tests.{passed}
 use Rattle.day.proofs.inputs.tenths_of.Statement.{statement}
 use Rattle.day.proofs.inputs.tenths_of.Tie as tie

@@ -1,0 +1,22 @@
+-- The ranges that document 01 gives, ends included. Assumes nothing.
+use Rattle.numbers.specs.Ranges.{Range, from_to_, minus_to_}
+
+-- "temperatures -94 to 1,291 (the report's -23 °C, and below its 54 °C); radiation 0 to 12,000; wind 0 to 9,999", in tenths
+abbrev pub temperature : Range
+temperature = minus 94 to 1_291
+
+abbrev pub radiation : Range
+radiation = from 0 to 12_000
+
+abbrev pub wind : Range
+wind = from 0 to 9_999
+
+-- "Minimum: 50 to 200", `d` in its longest year, and a signed number of two bytes
+abbrev pub clearMinimum : Range
+clearMinimum = from 50 to 200
+
+abbrev pub dayOfYear : Range
+dayOfYear = from 1 to 366
+
+abbrev pub signedWord : Range
+signedWord = minus 32_768 to 32_767
