@@ -27,6 +27,7 @@ use Rattle.day.specs.declared.Verdict.the-variants.{Figure, Refused}
 
 -- ---- what the sheet is worked from
 
+-- the six readings, in tenths
 unfoldable pub readingsOf : Day → Readings
 readingsOf x =
     record {
@@ -69,6 +70,7 @@ meansOf earlier = withMean (earlier .one) (withMean (earlier .two) (withMean (ea
 unfoldable pub earlierOf : Earlier → SheetEarlier
 earlierOf earlier = record { k = pos (length (meansOf earlier)); z = sumOf (meansOf earlier) }
 
+-- the sheet's figure, which is never below 0
 unfoldable pub figureOf : Station → Day → Earlier → ℕ
 figureOf st x earlier = natAbs (sheet.figure (readingsOf x) (entriesOf st x) (earlierOf earlier) (clearOf st x))
 
