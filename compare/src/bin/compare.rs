@@ -33,8 +33,8 @@ const LONG: Size = Size {
     full_logs: 40,
 };
 
-/// How far a figure may lie from the equation, in 0.0001 inch.
-const ALLOWED: f64 = 0.6;
+/// How far a figure is proved to lie from the equation at most, in 0.0001 inch.
+const ALLOWED: f64 = 0.515;
 
 fn main() -> ExitCode {
     let start = Instant::now();

@@ -3,17 +3,8 @@ use borrow.Author.Needs.{needs}
 use Rattle.tables.proofs.a1.Statement.{statement}
 use Rattle.tables.proofs.a1.Tie as tie
 
-sub-result : tie.Need-sub-result
-sub-result c = search needs
-
-mul-result : tie.Need-mul-result
-mul-result c = search needs
-
-element-copy-out-result : tie.Need-element-copy-out-result
-element-copy-out-result c = search needs
-
-returns : tie.Need-returns
-returns c = c .before .pre .0 .entries (c .before .args .d) (search needs) (search needs)
-
 pub a1-spec : {M : Type 1} → statement M
-a1-spec = tie.close (tie.spec sub-result mul-result element-copy-out-result returns)
+a1-spec =
+    tie.close
+    (tie.spec (λ c. search needs) (λ c. search needs) (λ c. search needs)
+    (λ c. c .before .pre .0 .entries (c .before .args .d) (search needs) (search needs)))
