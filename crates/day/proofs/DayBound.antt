@@ -60,7 +60,7 @@ same-means earlier =
 -- ---- an answered day: where none of the refusals holds, the numbers are what the sheet's nearness asks for
 
 -- what the clear day is worked from
-abbrev constantsOf : Station → Day → Constants
+abbrev pub constantsOf : Station → Day → Constants
 constantsOf st day =
     record {
       c1 = st .c1;
@@ -109,7 +109,7 @@ module _ (st : Station) (day : Day) (earlier : Earlier) (constants : SignedConst
       (with-mean (earlier .two) (passed-tests.two-passed st day earlier (none-holds OutOfRange))
       (with-mean (earlier .three) (passed-tests.three-passed st day earlier (none-holds OutOfRange)) none))
 
-  accepted : Accepted (readingsOf day) (entriesOf st day) (meansOf earlier) (constantsOf st day)
+  pub accepted : Accepted (readingsOf day) (entriesOf st day) (meansOf earlier) (constantsOf st day)
   unfolding holds readingsOf clearOf
   accepted =
       record {

@@ -3,5 +3,6 @@ pub mod Tests
 pub mod Passed
 pub mod Standings
 pub mod DayBound
+pub mod FigureLimit
 pub mod Edges
 pub mod Examples

@@ -1,4 +1,5 @@
--- The proof that the figure is near: one file for each part of the sheet, and `figure-near` in Nearness, over all of them.
+-- The proof that the figure is near: one file for each part of the sheet, and `figure-near` in Nearness, over all of them. What follows of the
+-- figure's size is in FigureLimit.
 pub mod Units
 pub mod Ends
 pub mod TemperatureBound
@@ -11,3 +12,4 @@ pub mod EntryBound
 pub mod FigureBound
 pub mod SheetBound
 pub mod Nearness
+pub mod FigureLimit

@@ -12,10 +12,12 @@ pub mod Bounds
 pub mod Near
 pub mod Quotients
 pub mod Roots
+pub mod FractionRoots
 pub mod Rounded
 pub mod RoundedQuotient
 pub mod RoundedRoot
 pub mod RoundedLimit
+pub mod RoundedSize
 pub mod RangeArithmetic
 pub mod RangeTests
 pub mod Signs

@@ -124,6 +124,10 @@ pub ≤ℚ-ratio : (a b : Ratio) → T (leᴿ a b) → fraction a ≤ℚ fractio
 unfolding computed
 ≤ℚ-ratio a b t = record { le = t }
 
+pub ≤ℚ-test : (a b : Ratio) → fraction a ≤ℚ fraction b → T (leᴿ a b)
+unfolding computed
+≤ℚ-test a b h = h .le
+
 pub ≡-ratio : (a b : Ratio) → T (eqᴿ a b) → fraction a ≡ fraction b
 ≡-ratio a b t =
     ringℚ 2 (λ a b. a := a :- b :+ b) tt (fraction a) (fraction b)
