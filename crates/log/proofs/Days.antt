@@ -1,4 +1,4 @@
--- What is known of a day record of a log: its answer stands at its place (`answer-at`), and a good date is one of the calendar (`good-in-calendar`).
+-- What is known of a day record of a log: its answer stands at its place (`answer-at`), and a good date is one of the calendar (`good-date`).
 -- Assumes nothing.
 use mathlib.Core.Path.{_≡_, refl, sym, ap, _∙_}
 use mathlib.Core.Bool.{Bool, true, false, cond}
@@ -10,7 +10,8 @@ use Rattle.day.specs.Calendar.{isDate}
 use Rattle.day.specs.declared.Day.{Day}
 use Rattle.day.specs.declared.Earlier.{Earlier}
 use Rattle.day.specs.declared.Station.{Station}
-use Rattle.log.specs.Answers.{dayAnswer, verdictOf}
+use Rattle.day.specs.declared.Verdict.{Verdict}
+use Rattle.log.specs.Answers.{dayAnswer, verdictOf, answerBytes, bytesOf}
 use Rattle.log.specs.Days.{DayAt, verdictAt}
 use Rattle.log.specs.History.{afterLast, goodDate}
 use Rattle.log.specs.Log.{day, answersOf, Reading, entriesOf, readingOf, outcomeOf, leaves, bufferAfter}
@@ -27,6 +28,14 @@ nine-at before bytes rest {place} l p = ap (take 9) (drop-at before (bytes ++ re
 
 -- ---- a day record
 
+pub good-date : (h : List Day) (x : Day) → goodDate h x ≡ true → isDate (x .year) (x .d) ≡ true
+unfolding goodDate
+good-date h x e = by (isDate (x .year) (x .d)) e
+  where
+    by : (b : Bool) → cond b (afterLast h x) false ≡ true → b ≡ true
+    by true f = refl
+    by false f = f
+
 module _ {s : List ℕ} {i : ℕ} {x : Station} {y : Day} {earlier : Earlier} {good : Bool} {place : ℕ} (d : DayAt s i x y earlier good place) where
   verdict-is : verdictOf x (d .history) y ≡ verdictAt x y earlier good
   unfolding verdictOf
@@ -34,25 +43,20 @@ module _ {s : List ℕ} {i : ℕ} {x : Station} {y : Day} {earlier : Earlier} {g
 
   -- in the buffer that an accepted log leaves, the day's own answer stands at its place
   pub answer-at : (buffer : List ℕ) {n : ℕ} → outcomeOf s (length buffer) ≡ Written n
-      → take 9 (drop place (bufferAfter s buffer)) ≡ dayAnswer y (verdictAt x y earlier good)
+      → take 9 (drop place (bufferAfter s buffer)) ≡ answerBytes (dayAnswer y (verdictAt x y earlier good))
   unfolding bufferAfter
   answer-at buffer {n} e =
-      let own = dayAnswer y (verdictOf x (d .history) y) in
-      let front = answersOf (d .before) in
-      let back = answersOf (d .later) in
-      let answers : answersOf (entriesOf (readingOf s)) ≡ front ++ (own ++ back) =
-      ap (λ (r : Reading). answersOf (entriesOf r)) (d .stands) ∙ answers-append (d .before) (day x (d .history) y ∷ d .later) in
+      let own = answerBytes (dayAnswer y (verdictOf x (d .history) y)) in
+      let front = bytesOf (answersOf (d .before)) in
+      let back = bytesOf (answersOf (d .later)) in
+      let answers : bytesOf (answersOf (entriesOf (readingOf s))) ≡ front ++ (own ++ back) =
+      ap (λ (r : Reading). bytesOf (answersOf (entriesOf r))) (d .stands) ∙ answers-append (d .before) (day x (d .history) y ∷ d .later) in
       let whole : bufferAfter s buffer ≡ front ++ (own ++ (back ++ drop n buffer)) =
-      ap (λ (o : Outcome). leaves o (answersOf (entriesOf (readingOf s))) buffer) e
+      ap (λ (o : Outcome). leaves o (bytesOf (answersOf (entriesOf (readingOf s)))) buffer) e
       ∙ ap (λ (l : List ℕ). l ++ drop n buffer) answers
       ∙ append-assoc front (own ++ back) (drop n buffer)
       ∙ ap (λ (l : List ℕ). front ++ l) (append-assoc own back (drop n buffer)) in
-      ap (λ (l : List ℕ). take 9 (drop place l)) whole ∙ nine-at front own (back ++ drop n buffer) refl (d .behind) ∙ ap (dayAnswer y) verdict-is
+      ap (λ (l : List ℕ). take 9 (drop place l)) whole ∙ nine-at front own (back ++ drop n buffer) refl (d .behind) ∙ ap (λ (v : Verdict). answerBytes (dayAnswer y v)) verdict-is
 
   pub good-in-calendar : good ≡ true → isDate (y .year) (y .d) ≡ true
-  unfolding goodDate
-  good-in-calendar g = by (isDate (y .year) (y .d)) (sym (d .dated) ∙ g)
-    where
-      by : (b : Bool) → cond b (afterLast (d .history) y) false ≡ true → b ≡ true
-      by true e = refl
-      by false e = e
+  good-in-calendar g = good-date (d .history) y (sym (d .dated) ∙ g)

@@ -10,9 +10,10 @@ use Rattle.day.specs.declared.Earlier.{Earlier}
 use Rattle.day.specs.declared.Refusal.{Refusal}
 use Rattle.day.specs.declared.Refusal.the-variants.{StationField, BadDate, Missing, OutOfRange, OutOfOrder, AboveClear, SumBelowOne}
 use Rattle.day.specs.declared.Station.{Station}
+use Rattle.day.specs.declared.Verdict.{Verdict}
 use Rattle.day.specs.declared.Verdict.the-variants.{Figure}
 use Rattle.day.proofs.DayBound.{judged-within-bound}
-use Rattle.log.specs.Answers.{dayAnswer}
+use Rattle.log.specs.Answers.{dayAnswer, answerBytes}
 use Rattle.log.specs.Demand.{AnsweredLog, AnsweredDay, FigureAt, FiguresOwed, EveryFigureWithinBound}
 use Rattle.log.specs.Log.{bufferAfter, Read}
 use Rattle.log.specs.declared.Outcome.{Outcome}
@@ -41,7 +42,7 @@ module _ {s : List ℕ} {i : ℕ} {st : Station} {x : Day} {earlier : Earlier} {
 
   pub figure-at : (buffer : List ℕ) → AnsweredLog s buffer → FigureAt st x earlier place (bufferAfter s buffer)
   unfolding AnsweredLog FigureAt
-  figure-at buffer log = (owed .0, answer-at (d .at) buffer (log .1) ∙ ap (dayAnswer x) (owed .1), owed .2)
+  figure-at buffer log = (owed .0, answer-at (d .at) buffer (log .1) ∙ ap (λ (v : Verdict). answerBytes (dayAnswer x v)) (owed .1), owed .2)
 
 pub log-within-bound : (s buffer : List ℕ) → FiguresOwed s buffer (bufferAfter s buffer)
 unfolding FiguresOwed

@@ -1,5 +1,6 @@
 -- The lemmas that belong to no one function.
 pub mod Overwriting
+pub mod ReadBack
 pub mod Calendar
 pub mod Carried
 pub mod Placed
@@ -14,3 +15,4 @@ pub mod Sample
 pub mod WorkedLog
 pub mod Steps
 pub mod OutcomeSize
+pub mod Longest

@@ -10,16 +10,16 @@ use Rattle.day.specs.Calendar.{yearLength, isDate}
 use Rattle.day.specs.Judgement.{holds, standingOf, judged, Answered}
 use Rattle.day.specs.declared.Earlier.{Earlier}
 use Rattle.day.specs.declared.Mean.the-variants.{Present, Absent}
-use Rattle.day.specs.declared.Verdict.{Verdict}
 use Rattle.day.specs.declared.Refusal.the-variants.{BadDate, Missing}
-use Rattle.day.specs.declared.Verdict.the-variants.{Refused}
+use Rattle.day.specs.declared.Verdict.the-variants.{Figure, Refused}
 use Rattle.day.proofs.Examples.{days}
-use Rattle.log.specs.Answers.{dayAnswer, verdictOf}
+use Rattle.log.specs.Answers.{dayAnswer, verdictOf, answerBytes, bytesOf}
 use Rattle.records.specs.Bytes.{wordAt, signedOf, signedAt}
 use Rattle.log.specs.Days.{DayAt}
 use Rattle.log.specs.Demand.{AnsweredDay}
 use Rattle.log.specs.History.{daysBefore, goodDate, counted, earlierMeans}
-use Rattle.log.specs.Log.{readFrom, readingOf, entriesOf, outcomeOf, bufferAfter}
+use Rattle.log.specs.Log.{answersOf, readFrom, readingOf, entriesOf, outcomeOf, bufferAfter}
+use Rattle.log.specs.declared.Answer.the-variants as answer
 use Rattle.records.specs.Record.{stationAt, dayAt, recordAt}
 use Rattle.log.proofs.Sample.{sample, station, third}
 
@@ -37,24 +37,32 @@ lacking : (judged (stationAt sample 1) (dayAt sample 20) (record { one = Absent;
 unfolding judged standingOf holds stationAt dayAt wordAt signedOf signedAt isDate yearLength
 lacking = (refl, refl)
 
+-- LIDW; day 10 and day 11 of 2008 refused with 7; day 12 with the figure 0
+pub worked : answersOf (entriesOf (readingOf sample)) ≡
+    answer.Station (stationAt sample 1 .code)
+    ∷ answer.Day 2008 10 (Refused Missing) ∷ answer.Day 2008 11 (Refused Missing) ∷ answer.Day 2008 12 (Figure 0)
+    ∷ []
+unfolding readingOf readFrom recordAt stationAt dayAt wordAt signedOf signedAt isDate yearLength daysBefore goodDate counted earlierMeans verdictOf
+worked =
+    λ i.
+    answer.Station (stationAt sample 1 .code)
+    ∷ dayAnswer (dayAt sample 20) (lacking .0 i) ∷ dayAnswer (dayAt sample 37) (lacking .1 i) ∷ dayAnswer (dayAt sample 54) (days .0 .verdict i)
+    ∷ []
+
 -- a buffer of 34 bytes
 abbrev lent : List ℕ
 lent =
     9 ∷ 9 ∷ 9 ∷ 9 ∷ 9 ∷ 9 ∷ 9 ∷ 9 ∷ 9 ∷ 9 ∷ 9 ∷ 9 ∷ 9 ∷ 9 ∷ 9 ∷ 9 ∷ 9 ∷ 9 ∷ 9 ∷ 9 ∷ 9 ∷ 9 ∷ 9 ∷ 9 ∷ 9 ∷ 9 ∷ 9 ∷ 9 ∷ 9 ∷ 9 ∷ 9 ∷ 9 ∷ 9 ∷ 9 ∷ []
 
-abbrev answers : Verdict → Verdict → Verdict → List ℕ
-answers a b c =
-    (5 ∷ 76 ∷ 73 ∷ 68 ∷ 87 ∷ []) ++ dayAnswer (dayAt sample 20) a ++ dayAnswer (dayAt sample 37) b ++ dayAnswer (dayAt sample 54) c
-
--- LIDW; day 10 and day 11 of 2008 refused with 7; day 12 with the figure 0; the last two bytes as they were
+-- the last two bytes as they were
 pub bytes : bufferAfter sample lent ≡
     5 ∷ 76 ∷ 73 ∷ 68 ∷ 87
     ∷ 4 ∷ 7 ∷ 216 ∷ 0 ∷ 10 ∷ 0 ∷ 0 ∷ 0 ∷ 7
     ∷ 4 ∷ 7 ∷ 216 ∷ 0 ∷ 11 ∷ 0 ∷ 0 ∷ 0 ∷ 7
     ∷ 3 ∷ 7 ∷ 216 ∷ 0 ∷ 12 ∷ 0 ∷ 0 ∷ 0 ∷ 0
     ∷ 9 ∷ 9 ∷ []
-unfolding bufferAfter outcomeOf readingOf readFrom recordAt stationAt dayAt wordAt signedOf signedAt isDate yearLength daysBefore goodDate counted earlierMeans verdictOf
-bytes = λ i. answers (lacking .0 i) (lacking .1 i) (days .0 .verdict i) ++ (9 ∷ 9 ∷ [])
+unfolding bufferAfter outcomeOf readingOf readFrom recordAt stationAt dayAt wordAt signedOf signedAt
+bytes = λ i. bytesOf (worked i) ++ (9 ∷ 9 ∷ [])
 
 -- ---- two blocks
 
@@ -111,11 +119,11 @@ unfolding bufferAfter outcomeOf readingOf readFrom recordAt stationAt dayAt word
 two-blocks =
     λ i.
     (5 ∷ 76 ∷ 73 ∷ 68 ∷ 88 ∷ [])
-    ++ dayAnswer (dayAt twoBlocks 20) (lacking-too .0 i)
-    ++ dayAnswer (dayAt twoBlocks 37) (lacking-too .1 i)
+    ++ answerBytes (dayAnswer (dayAt twoBlocks 20) (lacking-too .0 i))
+    ++ answerBytes (dayAnswer (dayAt twoBlocks 37) (lacking-too .1 i))
     ++ (5 ∷ 76 ∷ 73 ∷ 68 ∷ 87 ∷ [])
-    ++ dayAnswer (dayAt sample 20) (lacking .0 i)
-    ++ dayAnswer (dayAt sample 37) (lacking .1 i)
-    ++ dayAnswer (dayAt sample 37) (Refused BadDate)
-    ++ dayAnswer (dayAt sample 54) (days .0 .verdict i)
+    ++ answerBytes (dayAnswer (dayAt sample 20) (lacking .0 i))
+    ++ answerBytes (dayAnswer (dayAt sample 37) (lacking .1 i))
+    ++ answerBytes (dayAnswer (dayAt sample 37) (Refused BadDate))
+    ++ answerBytes (dayAnswer (dayAt sample 54) (days .0 .verdict i))
     ++ drop 64 room

@@ -11,6 +11,7 @@ use Rattle.day.specs.declared.Refusal.the-variants.{BadDate}
 use Rattle.day.specs.declared.Station.{Station}
 use Rattle.day.specs.declared.Verdict.{Verdict}
 use Rattle.day.specs.declared.Verdict.the-variants.{Refused}
+use Rattle.log.specs.Answers.{bytesOf}
 use Rattle.log.specs.History.{goodDate, earlierMeans}
 use Rattle.log.specs.Log.{Entry, day, accepted, readingOf, answersOf}
 
@@ -24,7 +25,7 @@ pub record DayAt (s : List ℕ) (i : ℕ) (station : Station) (x : Day) (earlier
   pub index : i ≡ length before
   pub means : earlier ≡ earlierMeans history x
   pub dated : good ≡ goodDate history x
-  pub behind : place ≡ length (answersOf before)
+  pub behind : place ≡ length (bytesOf (answersOf before))
 
 -- the verdict in its answer: 6, or that of the judgement
 abbrev pub verdictAt : Station → Day → Earlier → Bool → Verdict

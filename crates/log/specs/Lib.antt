@@ -7,3 +7,4 @@ pub mod Demand
 pub mod Overwriting
 pub mod Carried
 pub mod Passes
+pub mod ReadBack
