@@ -19,4 +19,4 @@ module _ (s : List ℕ) (size : ℕ) where
 
   -- no refusal of a log has the number 0
   pub refused-said : {k place : ℕ} → Refused k place ≡ outcomeOf s size → said k place ≡ refused k place
-  refused-said {k} {place} e = sym (first-there _ (ne-eqb k 0 (λ z. omega (arith, z, subst Small (sym e) (outcome-small s size) .0))) refl)
+  refused-said {k} {place} e = sym (first-there _ (ne-eqb k 0 (λ z. omega (arith, z, subst Small (sym e) (outcome-small s size) .0 .0))) refl)

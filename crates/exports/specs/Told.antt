@@ -1,4 +1,4 @@
--- What a number that an exported function returns says of a day or of a log. Every number of 64 bits says one thing, and no two say the same (proofs/Told.antt, `told-apart`).
+-- What a number that an exported function returns says of a day, of a log or of a report. Every number of 64 bits says one thing, and no two say the same (proofs/Told.antt, `told-apart`).
 -- Assumes nothing.
 use mathlib.Core.Bool.{cond}
 use mathlib.Core.Path.{_≡_}
@@ -14,6 +14,8 @@ use Rattle.day.specs.declared.Verdict.{Verdict}
 use Rattle.day.specs.declared.Verdict.the-variants.{Figure, Refused}
 use Rattle.log.specs.declared.Outcome.{Outcome}
 use Rattle.log.specs.declared.Outcome.the-variants as outcome
+use Rattle.lines.specs.declared.Printed.{Printed}
+use Rattle.lines.specs.declared.Printed.the-variants as printed
 
 -- a figure or a length; or a refusal's number, with its offset or the length needed, and 0 where it has neither
 pub data Said : Type 0 where
@@ -35,6 +37,11 @@ verdictSaid (Refused why) = refused (numberOf why) 0
 abbrev pub outcomeSaid : Outcome → Said
 outcomeSaid (outcome.Written n) = accepted n
 outcomeSaid (outcome.Refused k place) = refused k place
+
+-- a text buffer that is too short is refused with 12, as an answer buffer is
+abbrev pub printedSaid : Printed → Said
+printedSaid (printed.Written n) = accepted n
+printedSaid (printed.Needs n) = refused 12 n
 
 -- Demand 3, of the number: an answered day has a figure there, within the bound
 unfoldable pub FigureSaid : Station → Day → Earlier → ℕ → Type 0

@@ -1,11 +1,13 @@
-// The judge of days and the reader of logs for programs in other languages, over numbers and byte slices alone. fuortwem.h declares them.
+// The judge of days, the reader of logs and the writer of reports for programs in other languages, over numbers and byte slices alone. fuortwem.h
+// declares them.
 ghost use mathlib.Core.Path.{_≡_};
 ghost use lib.ListN.{length};
 ghost use Rattle.day.specs.Judgement.{judged};
 ghost use Rattle.log.specs.Demand.{FiguresOwed};
 ghost use Rattle.log.specs.Log.{outcomeOf, bufferAfter};
+ghost use Rattle.lines.specs.Report.{reportOf, printedIn, textOver};
 ghost use Rattle.exports.specs.HandedIn.{stationOf, dayOf, meanOf, threeBefore};
-ghost use Rattle.exports.specs.Told.{said, saidBy, verdictSaid, outcomeSaid, FigureSaid};
+ghost use Rattle.exports.specs.Told.{said, saidBy, verdictSaid, outcomeSaid, printedSaid, FigureSaid};
 use day::Code;
 use day::Day;
 use day::Earlier;
@@ -13,6 +15,7 @@ use day::Mean;
 use day::Station;
 use day::Verdict;
 use day::judge::judge;
+use lines::Printed;
 use log::Outcome;
 
 // A refusal's number, 0 for none, in the high half, and a value in the low half.
@@ -112,5 +115,20 @@ pub extern "C" fn fuortwem_read_log(log: &[u8], answers: &mut [u8]) -> u64
     match log::read_log(log, answers) {
         Outcome::Written(n) => packed(0, n as u32),
         Outcome::Refused(k, place) => packed(k as u32, place as u32),
+    }
+}
+
+// A log's report as text, with the answers as above. The high half of the result is 0 and the low half the length of the text written; or the high
+// half is 12 and the low half the length that the text buffer needs.
+#[no_mangle]
+pub extern "C" fn fuortwem_report(log: &[u8], answers: &mut [u8], text: &mut [u8]) -> u64
+    ensures { λ r. ⌜ saidBy r ≡ printedSaid (printedIn (length (now (text .entry))) (reportOf (now (log .entry)) (length (now (answers .entry))))) ⌝ }
+    ensures { λ _. ⌜ now (text .exit) ≡ textOver (now (text .entry)) (reportOf (now (log .entry)) (length (now (answers .entry)))) ⌝ }
+    ensures { λ _. ⌜ now (answers .exit) ≡ bufferAfter (now (log .entry)) (now (answers .entry)) ⌝ }
+    ensures { λ _. ⌜ FiguresOwed (now (log .entry)) (now (answers .entry)) (now (answers .exit)) ⌝ }
+{
+    match lines::write_report(log, answers, text) {
+        Printed::Written(n) => packed(0, n as u32),
+        Printed::Needs(n) => packed(12, n as u32),
     }
 }

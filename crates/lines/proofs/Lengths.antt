@@ -33,13 +33,17 @@ two-digits OutOfOrder = lit< tt
 two-digits AboveClear = lit< tt
 two-digits SumBelowOne = lit< tt
 
+pub refusal-most : (r : Refusal) → length (verdictText (Refused r)) ≤ 3
+unfolding verdictText
+refusal-most r = omega (arith, digits-most 1 (numberOf r) (two-digits r))
+
 -- at most 6 digits, a point and 4 decimals
 verdict-most : (v : Verdict) → Handed v → length (verdictText v) ≤ 11
 unfolding verdictText
 verdict-most (Figure n) handed =
     let fits : n < 2 ^ 32 = handed .1 .1 .1 .1 .0 .1 in
     inches-most 5 n (omega arith)
-verdict-most (Refused r) handed = omega (arith, digits-most 1 (numberOf r) (two-digits r))
+verdict-most (Refused r) handed = omega (arith, refusal-most r)
 
 pub day-line-size : (code : Code) (year d : ℕ) (v : Verdict)
     → length (dayLine code year d v) ≡ 4 + length (field (padded 4 year)) + length (field (padded 3 d)) + length (field (verdictText v)) + 1

@@ -1,4 +1,5 @@
--- The definitions that the contracts of the lines cite.
+-- The definitions that the contracts of the report cite.
 pub mod Text
-pub mod Answers
+pub mod Report
 pub mod Written
+pub mod Walk

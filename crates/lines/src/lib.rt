@@ -1,32 +1,77 @@
-// The report's lines as text. Each function lays one line over the front of a lent buffer and says how long the line is; nothing is asked of the
-// caller, since the longest line, a refused log's, has 33 bytes.
-ghost use Rattle.lines.specs.Text.{dayLine, refusedLine};
+// The report of a log as text: the log's bytes in, the answers and the whole text in lent buffers.
+ghost use mathlib.Core.List.{List, _++_};
+ghost use mathlib.Core.Path.{_≡_};
+ghost use Prim.Native.Nat.{_≤_};
+ghost use lib.ListN.{length};
+ghost use Rattle.log.specs.Demand.{FiguresOwed};
+ghost use Rattle.log.specs.Log.{bufferAfter};
+ghost use Rattle.log.specs.declared.Answer.{Answer as Answered};
+ghost use Rattle.lines.specs.Report.{reportOf, linesOf, Prints};
 ghost use Rattle.lines.specs.Text.{header as Text·header};
+ghost use Rattle.lines.specs.Text.{refusedLine};
+ghost use Rattle.lines.specs.Walk.{Holds};
 ghost use Rattle.lines.specs.Written.{AtFront};
-use day::Code;
-use day::Verdict;
+use log::Outcome;
+use log::read_log;
 
-pub mod answers;
 mod fields;
+mod single;
+mod walk;
 mod whole;
 
-// The line above the days: `STN YEAR DAY ET`.
-pub fn header(out: &mut [u8; 64]) -> usize
-    ensures { λ r. ⌜ AtFront (now (out .entry)) Text·header (now (out .exit)) r ⌝ }
-{
-    whole::put_header(out, 0)
+// The length of the text written, or the length that a text buffer needs.
+pub enum Printed {
+    Written(usize),
+    Needs(usize),
 }
 
-// The line of a day: its station's code, the year, the day of the year, and the inches or R and the refusal's number.
-pub fn day_line(code: Code, year: u16, d: u16, verdict: Verdict, out: &mut [u8; 64]) -> usize
-    ensures { λ r. ⌜ AtFront (now (out .entry)) (dayLine code year d verdict) (now (out .exit)) r ⌝ }
+// A refused log's line.
+fn print_refused(number: u8, value: usize, text: &mut [u8]) -> Printed
+    ensures { λ r. ⌜ Prints (refusedLine number value) (now (text .entry)) r (now (text .exit)) ⌝ }
 {
-    whole::put_day_line(out, 0, code, year, d, verdict)
+    let mut line = [0u8; 64];
+    let n = single::refused_line(number, value, &mut line);
+    if text.len() < n {
+        return Printed::Needs(n);
+    }
+    Printed::Written(whole::put_refused_line(text, 0, number, value))
 }
 
-// The line of a refused log: the refusal's number, and the offset or the length.
-pub fn refused_line(number: u8, value: usize, out: &mut [u8; 64]) -> usize
-    ensures { λ r. ⌜ AtFront (now (out .entry)) (refusedLine number value) (now (out .exit)) r ⌝ }
+// The header and the lines of the answers that the first n bytes hold. They are counted first, so that a text buffer that is too short is left as it was.
+fn print_answers(answers: &[u8], n: usize, text: &mut [u8]) -> Printed
+    requires { ⌜ n ≤ 65536 ⌝ }
+    requires { ⌜ ((all : List Answered) × Holds (now answers) n all) ⌝ }
+    ensures { λ r. ⌜ ((all : List Answered) → Holds (now (answers .entry)) n all → Prints (Text·header ++ linesOf all) (now (text .entry)) r (now (text .exit))) ⌝ }
 {
-    whole::put_refused_line(out, 0, number, value)
+    let mut line = [0u8; 64];
+    let above = single::header(&mut line);
+    let size = walk::put_lines(answers, n, text, above, false);
+    if text.len() < size {
+        return Printed::Needs(size);
+    }
+    let start = whole::put_header(text, 0);
+    Printed::Written(walk::put_lines(answers, n, text, start, true))
+}
+
+// Reads a log and writes its report. The answers are left as `read_log` leaves them.
+pub fn write_report(log: &[u8], answers: &mut [u8], text: &mut [u8]) -> Printed
+    ensures { λ r. ⌜ Prints (reportOf (now (log .entry)) (length (now (answers .entry)))) (now (text .entry)) r (now (text .exit)) ⌝ }
+    ensures { λ _. ⌜ now (answers .exit) ≡ bufferAfter (now (log .entry)) (now (answers .entry)) ⌝ }
+    ensures { λ _. ⌜ FiguresOwed (now (log .entry)) (now (answers .entry)) (now (answers .exit)) ⌝ }
+{
+    match read_log(log, answers) {
+        Outcome::Refused(number, value) => print_refused(number, value, text),
+        Outcome::Written(n) => print_answers(answers, n, text),
+    }
+}
+
+// Reads a log and writes its report whole: both buffers are long enough for every log.
+pub fn whole_report(log: &[u8], answers: &mut [u8; 34_682], text: &mut [u8; 80_929]) -> usize
+    ensures { λ r. ⌜ AtFront (now (text .entry)) (reportOf (now (log .entry)) 34682) (now (text .exit)) r × (r ≤ 80929) ⌝ }
+    ensures { λ _. ⌜ now (answers .exit) ≡ bufferAfter (now (log .entry)) (now (answers .entry)) ⌝ }
+{
+    match write_report(log, answers, text) {
+        Printed::Written(n) => n,
+        Printed::Needs(_) => 0,
+    }
 }

@@ -1,0 +1,28 @@
+// One line in a buffer of its own, and how long it is. Nothing is asked of the caller, since the longest line, a refused log's, has 33 bytes.
+ghost use Rattle.lines.specs.Text.{dayLine, refusedLine};
+ghost use Rattle.lines.specs.Text.{header as Text·header};
+ghost use Rattle.lines.specs.Written.{AtFront};
+use crate::whole;
+use day::Code;
+use day::Verdict;
+
+// The line above the days.
+pub fn header(out: &mut [u8; 64]) -> usize
+    ensures { λ r. ⌜ AtFront (now (out .entry)) Text·header (now (out .exit)) r ⌝ }
+{
+    whole::put_header(out, 0)
+}
+
+// The line of a day.
+pub fn day_line(code: Code, year: u16, d: u16, verdict: Verdict, out: &mut [u8; 64]) -> usize
+    ensures { λ r. ⌜ AtFront (now (out .entry)) (dayLine code year d verdict) (now (out .exit)) r ⌝ }
+{
+    whole::put_day_line(out, 0, code, year, d, verdict)
+}
+
+// The line of a refused log.
+pub fn refused_line(number: u8, value: usize, out: &mut [u8; 64]) -> usize
+    ensures { λ r. ⌜ AtFront (now (out .entry)) (refusedLine number value) (now (out .exit)) r ⌝ }
+{
+    whole::put_refused_line(out, 0, number, value)
+}
