@@ -23,7 +23,7 @@ abbrev pub aboutBlock : Open → List ℕ
 aboutBlock block = []
 
 -- What an answer prints: a day has its line, with its block's code. "A station prints no line of its own", but where it stands the block before it
--- has ended. No log answers a day before a station: that is refused with 4.
+-- has ended. No log answers a day before a station: it is refused with 4 (`station-first` in log/proofs/Longest.antt).
 abbrev pub lineOf : Open → Answer → List ℕ
 lineOf block (answer.Station code) = aboutBlock block
 lineOf NoBlock (answer.Day year d verdict) = []
