@@ -1,8 +1,8 @@
-/* Reference water use of a station day, for C and C++: a day judged alone, and a log read whole.
+/* Reference water use of a station day, for C and C++: a day judged alone, a log read whole, and its report as text.
  *
- * Link with libexports.a, which `rt staticlib exports` writes to target/staticlib. docs/LINKING.md has a program.
+ * Link with libexports.a, which `rt staticlib exports` writes to target/staticlib. docs/LINKING.md has programs.
  *
- * Both functions return two numbers of 32 bits in one of 64: fuortwem_number takes out the high half, fuortwem_value the low one.
+ * Each function returns two numbers of 32 bits in one of 64: fuortwem_number takes out the high half, fuortwem_value the low one.
  * The high half is the number of the refusal, or 0 if there is none. The numbers:
  *
  *    1   log: a record's kind is neither 1 nor 2
@@ -16,9 +16,9 @@
  *    9   day: minimum above mean, mean above maximum, or dew point above maximum
  *   10   day: radiation above twice that of a clear day
  *   11   day: the slope of the vapour pressure curve and the psychrometric constant, D + g, are below 1 (cannot happen with readings in range)
- *   12   log: the answer buffer is shorter than needed
+ *   12   log: the answer buffer is shorter than needed; report: the text buffer is
  *
- * Neither function allocates or keeps anything from one call to the next: both may be called from several threads at once. */
+ * No function allocates or keeps anything from one call to the next: all may be called from several threads at once. */
 #ifndef FUORTWEM_H
 #define FUORTWEM_H
 
@@ -28,12 +28,12 @@
 /* A reading that is missing. It counts in the six readings of a day only. */
 #define FUORTWEM_MISSING INT16_MIN
 
-/* The refusal's number of what either function returned: 0 for none. */
+/* The refusal's number of what a function returned: 0 for none. */
 static inline uint32_t fuortwem_number(uint64_t returned) {
     return (uint32_t)(returned >> 32);
 }
 
-/* The value of what either function returned: the low half. */
+/* The value of what a function returned: the low half. */
 static inline uint32_t fuortwem_value(uint64_t returned) {
     return (uint32_t)returned;
 }
@@ -95,6 +95,29 @@ uint64_t fuortwem_judge(
  * call; the two do not overlap; nothing else writes to the log or touches the answers meanwhile; neither pointer is NULL, even where its
  * length is 0. Everything else is checked here: the bytes of the log may be any. */
 uint64_t fuortwem_read_log(const uint8_t *log, size_t log_length, uint8_t *answers, size_t answers_length);
+
+/* Reads a log as fuortwem_read_log does, and writes its report to the front of the text buffer: ASCII, each line ended by a newline, no zero
+ * byte at the end.
+ *
+ * Returned, for every log and every length of the two buffers:
+ *
+ *   number 0    the report is written: the value is its length, and the bytes after it stay as they were
+ *   number 12   the text buffer is too short: the value is the length needed, and every byte of the text buffer stays as it was
+ *
+ * Either way the answer buffer is left as fuortwem_read_log leaves it. What that function would return decides the report:
+ *
+ *   number 0    the line "STN YEAR DAY ET", then a line for each day in log order, such as "LIDW 2008 012 0.0000": the station's code, the
+ *               year with at least four digits, the day of the year with at least three, and the inches or, for a day that is refused,
+ *               R and the number, such as "R7"; an empty log has the first line alone
+ *   another     one line, "REFUSED", the number and the value, such as "REFUSED 2 53"; so too where the answer buffer is too short, such
+ *               as "REFUSED 12 32"
+ *
+ * A call with a text length of 0 gives the length needed, for no report is empty. An answer buffer of 34,682 bytes and a text buffer of
+ * 80,929 are enough for every log.
+ *
+ * Asked of the caller: what fuortwem_read_log asks for the log and the answers, and the same as for the answers for `text` and
+ * `text_length`; no two of the three overlap. */
+uint64_t fuortwem_report(const uint8_t *log, size_t log_length, uint8_t *answers, size_t answers_length, uint8_t *text, size_t text_length);
 
 #ifdef __cplusplus
 }
