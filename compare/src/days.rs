@@ -1,6 +1,7 @@
 //! The days and logs to compare on, from a seeded generator: the same seed gives the same days everywhere.
+use crate::second::judge;
 use crate::second::sheet::clear_day;
-use crate::{Day, Earlier, Station};
+use crate::{Day, Earlier, Station, Verdict};
 
 /// The generator splitmix64.
 pub struct Random(u64);
@@ -445,6 +446,22 @@ pub fn log_of_length(random: &mut Random, length: usize) -> Option<Vec<u8>> {
     let fits = |stations: &usize| (length - 19 * stations).is_multiple_of(17);
     let stations = (1..=length / 19).find(fits)?;
     Some(log(random, stations, (length - 19 * stations) / 17))
+}
+
+/// One station and 3,853 days, which is as many as fit, each with a figure: no log has a longer report.
+pub fn answered_log(random: &mut Random) -> Vec<u8> {
+    let station = station(random);
+    let answered = |case: &Case| {
+        let verdict = judge(&case.station, &case.day, &[None; 3]);
+        matches!(verdict, Verdict::Figure(_))
+    };
+    let mut log = station_record(&station).to_vec();
+    let dates = (1_950..=2_099).flat_map(|year| (1..=365).map(move |d| (year, d)));
+    for date in dates.take(3_853) {
+        let case = std::iter::repeat_with(|| ordinary(random, station, date)).find(answered);
+        log.extend(case.iter().flat_map(|case| day_record(&case.day)));
+    }
+    log
 }
 
 /// A log with one to four bytes or stretches changed, put in, taken out or exchanged.

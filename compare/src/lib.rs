@@ -41,7 +41,7 @@ pub enum Verdict {
     Refused(u32),
 }
 
-/// The length written, or a refusal's number with its offset or, for 12, the length needed.
+/// The length written, or a refusal's number with its offset or, for 12, the length that a buffer needs.
 #[derive(Clone, Copy, Debug, PartialEq, Eq)]
 pub enum Outcome {
     Written(usize),

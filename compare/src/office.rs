@@ -1,4 +1,4 @@
-//! The proved library's two functions. Its contracts ask nothing of the numbers; the slices make sure of the pointers.
+//! The proved library's three functions. Its contracts ask nothing of the numbers; the slices make sure of the pointers.
 use crate::{Day, Earlier, Outcome, Station, Verdict};
 
 extern "C" {
@@ -35,6 +35,15 @@ extern "C" {
         log_len: usize,
         answers: *mut u8,
         answers_len: usize,
+    ) -> u64;
+
+    fn fuortwem_report(
+        log: *const u8,
+        log_len: usize,
+        answers: *mut u8,
+        answers_len: usize,
+        text: *mut u8,
+        text_len: usize,
     ) -> u64;
 }
 
@@ -129,13 +138,32 @@ pub fn judge(station: &Station, day: &Day, earlier: &Earlier) -> Verdict {
     }
 }
 
-/// A log read to its end or refused.
-#[inline]
-pub fn read_log(log: &[u8], answers: &mut [u8]) -> Outcome {
-    let returned =
-        unsafe { fuortwem_read_log(log.as_ptr(), log.len(), answers.as_mut_ptr(), answers.len()) };
+fn outcome(returned: u64) -> Outcome {
     match halves(returned) {
         (0, length) => Outcome::Written(length as usize),
         (number, place) => Outcome::Refused(number, place as usize),
     }
+}
+
+/// A log read to its end or refused.
+#[inline]
+pub fn read_log(log: &[u8], answers: &mut [u8]) -> Outcome {
+    outcome(unsafe {
+        fuortwem_read_log(log.as_ptr(), log.len(), answers.as_mut_ptr(), answers.len())
+    })
+}
+
+/// A log's report: the length of the text, or 12 with the length that the text buffer needs.
+#[inline]
+pub fn report(log: &[u8], answers: &mut [u8], text: &mut [u8]) -> Outcome {
+    outcome(unsafe {
+        fuortwem_report(
+            log.as_ptr(),
+            log.len(),
+            answers.as_mut_ptr(),
+            answers.len(),
+            text.as_mut_ptr(),
+            text.len(),
+        )
+    })
 }

@@ -36,6 +36,10 @@ const LONG: Size = Size {
 /// How far a figure is proved to lie from the equation at most, in 0.0001 inch.
 const ALLOWED: f64 = 0.515;
 
+const LONGEST_LOG: usize = 65_536;
+/// The header and the lines of 3,853 days with a figure.
+const LONGEST_REPORT: usize = 80_929;
+
 fn main() -> ExitCode {
     let start = Instant::now();
     let size = match std::env::args().nth(1).as_deref() {
@@ -62,13 +66,14 @@ fn main() -> ExitCode {
 
 fn run(size: &Size) -> Result<(), String> {
     println!("tables: {} entries are the same", table_text::compare()?);
-    println!("report texts: {} are the same", compare_reports()?);
+    let program = compare_program()?;
+    program.print();
     println!("{}", refusal_eleven()?);
     let days = compare_days(size)?;
     days.print();
     let logs = compare_logs(size)?;
     logs.print();
-    all_reached(&days, &logs)
+    all_reached(&days, &logs, &program)
 }
 
 /// Refusal 11 over every mean and elevation in range: nothing else enters D + g.
@@ -239,10 +244,42 @@ struct LogTally {
     refused: [u64; 13],
     days: u64,
     days_refused: [u64; 13],
+    reports: ReportTally,
 }
 
 /// Bytes before and after the lent buffer that nothing may touch.
 const MARGIN: usize = 16;
+
+/// A buffer to lend, with the bytes around it.
+#[derive(Clone)]
+struct Lent(Vec<u8>);
+
+impl Lent {
+    fn new(turned: bool, length: usize) -> Self {
+        Lent(pattern(turned, length + 2 * MARGIN))
+    }
+
+    fn lend(&mut self) -> &mut [u8] {
+        let end = self.0.len() - MARGIN;
+        &mut self.0[MARGIN..end]
+    }
+
+    /// Every byte, those around the buffer too.
+    fn same_as(&self, expected: &Lent) -> Result<(), String> {
+        if self.0 == expected.0 {
+            return Ok(());
+        }
+        let both = self.0.iter().zip(&expected.0);
+        let same = both.take_while(|(given, expected)| given == expected);
+        let place = same.count();
+        Err(format!(
+            "byte {} is {}, not {}",
+            place as i64 - MARGIN as i64,
+            self.0[place],
+            expected.0[place]
+        ))
+    }
+}
 
 /// What a buffer holds before it is lent. No byte is the same under both patterns, so each write shows.
 fn pattern(turned: bool, length: usize) -> Vec<u8> {
@@ -259,6 +296,7 @@ fn in_hex(log: &[u8]) -> String {
 impl LogTally {
     fn check(&mut self, log: &[u8]) -> Result<(), String> {
         let answers = second::answer_bytes(log);
+        let report = second::report(log);
         self.logs += 1;
         let needed = match &answers {
             Ok(answers) => {
@@ -281,7 +319,10 @@ impl LogTally {
         ] {
             for turned in [false, true] {
                 self.check_buffer(log, &answers, length, turned)
-                    .map_err(|difference| format!("{difference}\n{}", in_hex(log)))?;
+                    .and_then(|read| self.reports.check(log, &report, length, turned, &read))
+                    .map_err(|difference| {
+                        format!("answer buffer of {length}: {difference}\n{}", in_hex(log))
+                    })?;
             }
         }
         Ok(())
@@ -293,42 +334,20 @@ impl LogTally {
         answers: &Result<Vec<u8>, second::log::Fault>,
         length: usize,
         turned: bool,
-    ) -> Result<(), String> {
-        let before = pattern(turned, length + 2 * MARGIN);
-        let lent = MARGIN..MARGIN + length;
-        let mut given_bytes = before.clone();
-        let mut expected_bytes = before.clone();
-        let given = office::read_log(log, &mut given_bytes[lent.clone()]);
-        let expected = second::write(answers, &mut expected_bytes[lent.clone()]);
-        if given != expected {
+    ) -> Result<Read, String> {
+        let mut buffer = Lent::new(turned, length);
+        let mut expected_buffer = buffer.clone();
+        let outcome = office::read_log(log, buffer.lend());
+        let expected = second::write(answers, expected_buffer.lend());
+        if outcome != expected {
             return Err(format!(
-                "buffer of {length}: {given:?}, the second implementation {expected:?}"
+                "{outcome:?}, the second implementation {expected:?}"
             ));
         }
-        let written = match given {
-            Outcome::Written(written) => written,
-            Outcome::Refused(number, _) => {
-                self.refused[12] += u64::from(number == 12);
-                0
-            }
-        };
-        let end = lent.start + written;
-        if given_bytes[..lent.start] != before[..lent.start] || given_bytes[end..] != before[end..]
-        {
-            return Err(format!(
-                "buffer of {length}, {given:?}: a byte beyond the answers was touched"
-            ));
-        }
-        if let Some(place) =
-            (0..length).find(|i| given_bytes[MARGIN + i] != expected_bytes[MARGIN + i])
-        {
-            let (given, expected) = (given_bytes[MARGIN + place], expected_bytes[MARGIN + place]);
-            return Err(format!(
-                "buffer of {length}: byte {place} is {given}, not {expected}"
-            ));
-        }
+        buffer.same_as(&expected_buffer)?;
+        self.refused[12] += u64::from(matches!(outcome, Outcome::Refused(12, _)));
         self.calls += 1;
-        Ok(())
+        Ok(Read { outcome, buffer })
     }
 
     fn count_days(&mut self, mut answers: &[u8]) {
@@ -355,25 +374,117 @@ impl LogTally {
         for number in [6, 7, 8, 9, 10, 11] {
             println!("  refusal {number}: {} days", self.days_refused[number]);
         }
+        self.reports.print();
     }
 }
 
-/// The longest log, one byte less and more, far too long ones, and faults at the far end.
+/// What `read_log` returned, and the answer buffer as it left it.
+struct Read {
+    outcome: Outcome,
+    buffer: Lent,
+}
+
+/// What a report can be.
+const REPORTS: [&str; 3] = ["whole", "of a refused log", "of a too short answer buffer"];
+
+/// The length of a text buffer, from the length that its report needs.
+type LengthFor = fn(usize) -> usize;
+
+/// The text buffers that each report is written to; the last two are too short for it.
+const TEXT_BUFFERS: [(&str, LengthFor); 5] = [
+    ("of the length needed", |needed| needed),
+    ("one byte longer", |needed| needed + 1),
+    ("much longer", |needed| 2 * needed + 100),
+    ("one byte short", |needed| needed - 1),
+    ("empty", |_| 0),
+];
+
+/// The texts that were the same, by what the report is and by its buffer.
+#[derive(Default)]
+struct ReportTally([[u64; TEXT_BUFFERS.len()]; REPORTS.len()]);
+
+impl ReportTally {
+    /// A log's report into each text buffer, with an answer buffer of this length and pattern; `read` is what `read_log`
+    /// made of it.
+    fn check(
+        &mut self,
+        log: &[u8],
+        report: &str,
+        length: usize,
+        turned: bool,
+        read: &Read,
+    ) -> Result<(), String> {
+        let short_line;
+        let (kind, report) = match read.outcome {
+            Outcome::Written(_) => (0, report),
+            Outcome::Refused(1..=5, _) => (1, report),
+            Outcome::Refused(number, needed) => {
+                short_line = second::refused_line(number, needed);
+                (2, &short_line[..])
+            }
+        };
+        for (room, (_, text_length)) in TEXT_BUFFERS.iter().enumerate() {
+            let text_length = text_length(report.len());
+            let differs =
+                |difference: String| format!("text buffer of {text_length}: {difference}");
+            let mut answers = Lent::new(turned, length);
+            let mut text = Lent::new(turned, text_length);
+            let mut expected_text = text.clone();
+            let given = office::report(log, answers.lend(), text.lend());
+            let expected = second::put(report.as_bytes(), expected_text.lend());
+            if given != expected {
+                return Err(differs(format!(
+                    "{given:?}, the second implementation {expected:?}"
+                )));
+            }
+            text.same_as(&expected_text).map_err(differs)?;
+            answers
+                .same_as(&read.buffer)
+                .map_err(|difference| differs(format!("of the answers, {difference}")))?;
+            self.0[kind][room] += 1;
+        }
+        Ok(())
+    }
+
+    fn of_kind(&self, kind: usize) -> u64 {
+        self.0[kind].iter().sum()
+    }
+
+    fn in_room(&self, room: usize) -> u64 {
+        self.0.iter().map(|of_kind| of_kind[room]).sum()
+    }
+
+    fn print(&self) {
+        let listed = |names: &mut dyn Iterator<Item = (&str, u64)>| {
+            let parts: Vec<_> = names.map(|(name, met)| format!("{name} {met}")).collect();
+            parts.join(", ")
+        };
+        let kinds = &mut (0..).zip(REPORTS).map(|(i, name)| (name, self.of_kind(i)));
+        let rooms = &mut (0..)
+            .zip(TEXT_BUFFERS)
+            .map(|(i, (name, _))| (name, self.in_room(i)));
+        println!("reports: {}; text buffer {}", listed(kinds), listed(rooms));
+    }
+}
+
+/// The longest log, one byte less and more, far too long ones, faults at the far end, and the longest report.
 fn full_logs(random: &mut Random) -> Vec<Vec<u8>> {
+    let answered = days::answered_log(random);
     let mut made = |length| days::log_of_length(random, length).expect("records fill it");
-    let full = made(65_536);
+    let full = made(LONGEST_LOG);
     let mut logs = vec![
-        made(65_535),
-        full[..65_535].to_vec(),
-        vec![0; 65_537],
+        made(LONGEST_LOG - 1),
+        full[..LONGEST_LOG - 1].to_vec(),
+        vec![0; LONGEST_LOG + 1],
         vec![1; 140_000],
     ];
     for after in [0, 1, 2, 255] {
         logs.push([&full[..], &[after]].concat());
-        logs.push([&full[..65_536 - 17], &[after]].concat());
+        logs.push([&full[..LONGEST_LOG - 17], &[after]].concat());
     }
     logs.push([&full[..], &full[..]].concat());
     logs.push(full);
+    logs.push(answered);
     logs
 }
 
@@ -409,12 +520,13 @@ fn report_program() -> PathBuf {
     )
 }
 
-/// What the report program prints for a log on standard input.
+/// What the report program prints for a log on standard input. It must end well and print nothing elsewhere.
 fn printed(program: &Path, log: &[u8]) -> Result<Vec<u8>, String> {
     let trouble = |error: std::io::Error| format!("report program {}: {error}", program.display());
     let mut child = Command::new(program)
         .stdin(Stdio::piped())
         .stdout(Stdio::piped())
+        .stderr(Stdio::piped())
         .spawn()
         .map_err(trouble)?;
     let mut input = child.stdin.take().expect("standard input is piped");
@@ -425,7 +537,13 @@ fn printed(program: &Path, log: &[u8]) -> Result<Vec<u8>, String> {
         match writing.join().expect("writing does not panic") {
             // The program may stop reading as soon as it knows that a log is too long.
             Err(error) if error.kind() != ErrorKind::BrokenPipe => Err(trouble(error)),
-            _ => Ok(output.stdout),
+            _ if output.status.success() && output.stderr.is_empty() => Ok(output.stdout),
+            _ => Err(format!(
+                "the report program: {}, standard error: {}\n{}",
+                output.status,
+                String::from_utf8_lossy(&output.stderr),
+                in_hex(log)
+            )),
         }
     })
 }
@@ -446,7 +564,60 @@ fn sample_logs() -> Result<Vec<Vec<u8>>, String> {
     Ok(logs)
 }
 
-fn compare_reports() -> Result<usize, String> {
+/// Whether a log, with its report, is of a kind.
+type IsOfKind = fn(&[u8], &str) -> bool;
+
+/// The kinds of logs that the report program must have been run on.
+const LOG_KINDS: [(&str, IsOfKind); 10] = [
+    ("refusal 1", |_, report| report.starts_with("REFUSED 1 ")),
+    ("refusal 2", |_, report| report.starts_with("REFUSED 2 ")),
+    ("refusal 3", |_, report| report.starts_with("REFUSED 3 ")),
+    ("refusal 4", |_, report| report.starts_with("REFUSED 4 ")),
+    ("refusal 5", |_, report| report.starts_with("REFUSED 5 ")),
+    ("of no bytes", |log, _| log.is_empty()),
+    ("of 65536 bytes, accepted", |log, report| {
+        log.len() == LONGEST_LOG && !report.starts_with("REFUSED")
+    }),
+    ("of 65537 bytes", |log, _| log.len() == LONGEST_LOG + 1),
+    ("longer", |log, _| log.len() > LONGEST_LOG + 1),
+    ("with a report of 80929 bytes", |_, report| {
+        report.len() == LONGEST_REPORT
+    }),
+];
+
+#[derive(Default)]
+struct ProgramTally {
+    texts: u64,
+    met: [u64; LOG_KINDS.len()],
+}
+
+impl ProgramTally {
+    fn check(&mut self, program: &Path, log: &[u8]) -> Result<(), String> {
+        let given = printed(program, log)?;
+        let expected = second::report(log);
+        if given != expected.as_bytes() {
+            return Err(format!(
+                "the report program printed\n{}\nthe second implementation\n{expected}\n{}",
+                String::from_utf8_lossy(&given),
+                in_hex(log)
+            ));
+        }
+        self.texts += 1;
+        for (met, (_, is_of_kind)) in self.met.iter_mut().zip(LOG_KINDS) {
+            *met += u64::from(is_of_kind(log, &expected));
+        }
+        Ok(())
+    }
+
+    fn print(&self) {
+        println!("report program: {} texts are the same", self.texts);
+        for (met, (kind, _)) in self.met.iter().zip(LOG_KINDS) {
+            println!("  {kind}: {met} logs");
+        }
+    }
+}
+
+fn compare_program() -> Result<ProgramTally, String> {
     let mut random = Random::new(3);
     let mut logs = sample_logs()?;
     logs.push(Vec::new());
@@ -458,22 +629,16 @@ fn compare_reports() -> Result<usize, String> {
         logs.push(days::loose_bytes(&mut random, 60));
     }
     let program = report_program();
+    let mut tally = ProgramTally::default();
     for log in &logs {
-        let given = printed(&program, log)?;
-        let expected = second::report(log);
-        if given != expected.as_bytes() {
-            return Err(format!(
-                "the report program printed\n{}\nthe second implementation\n{expected}\n{}",
-                String::from_utf8_lossy(&given),
-                in_hex(log)
-            ));
-        }
+        tally.check(&program, log)?;
     }
-    Ok(logs.len())
+    Ok(tally)
 }
 
-/// Fails if a refusal that can be given was never met.
-fn all_reached(days: &DayTally, logs: &LogTally) -> Result<(), String> {
+/// Fails if a refusal that can be given was never met, a kind of report never written to a kind of text buffer, or the
+/// report program never run on a kind of log.
+fn all_reached(days: &DayTally, logs: &LogTally, program: &ProgramTally) -> Result<(), String> {
     let of_days = [3, 6, 7, 8, 9, 10].map(|number| (number, "days alone", days.refused[number]));
     let of_logs = [1, 2, 3, 4, 5, 12].map(|number| (number, "logs", logs.refused[number]));
     let in_logs =
@@ -489,6 +654,21 @@ fn all_reached(days: &DayTally, logs: &LogTally) -> Result<(), String> {
             return Err(format!("refusal {number} of {of} was never reached"));
         }
     }
+    for (kind, by_room) in REPORTS.iter().zip(logs.reports.0) {
+        for ((room, _), met) in TEXT_BUFFERS.iter().zip(by_room) {
+            if met == 0 {
+                return Err(format!("no report {kind} had a text buffer {room}"));
+            }
+        }
+    }
+    for ((kind, _), met) in LOG_KINDS.iter().zip(program.met) {
+        if met == 0 {
+            return Err(format!("the report program met no log {kind}"));
+        }
+    }
     println!("every refusal from 1 to 12 was reached, but for 11, which cannot be given");
+    println!(
+        "every kind of report met every text buffer, and the report program every kind of log"
+    );
     Ok(())
 }

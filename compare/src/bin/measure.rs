@@ -1,9 +1,9 @@
 //! The speed of the proved library, in one run and as ratios: a log read whole, and a day judged alone, against the same
-//! sheet in plain Rust and against the published routine's floating-point formulas. Every answer that is timed is checked
-//! first; a wrong one is the only reason for a failing exit status.
+//! sheet in plain Rust and against the published routine's floating-point formulas; and a log's report against the log
+//! read alone. Every answer that is timed is checked first; a wrong one is the only reason for a failing exit status.
 use compare::days::{self, Case, Random};
 use compare::office::{self, Handed};
-use compare::second::{calendar, log, sheet};
+use compare::second::{self, calendar, log, sheet};
 use compare::{plain, Day, Earlier, Outcome, Station, Verdict};
 use std::fmt;
 use std::hint::black_box;
@@ -301,6 +301,7 @@ struct Log {
     cases: Vec<Case>,
     double: Vec<Readings<f64>>,
     expected: Vec<u8>,
+    report: String,
 }
 
 impl Log {
@@ -328,6 +329,7 @@ impl Log {
         }
         let expected = log::answer_bytes(&bytes).expect("a log without a fault");
         Log {
+            report: second::report(&bytes),
             bytes,
             double: cases
                 .iter()
@@ -341,10 +343,22 @@ impl Log {
     fn check(&self) -> Result<(), String> {
         let mut answers = vec![0; self.expected.len()];
         let outcome = office::read_log(&self.bytes, &mut answers);
-        if outcome == Outcome::Written(answers.len()) && answers == self.expected {
-            return Ok(());
+        if outcome != Outcome::Written(answers.len()) || answers != self.expected {
+            return Err(format!("log of {} bytes: {outcome:?}", self.bytes.len()));
         }
-        Err(format!("log of {} bytes: {outcome:?}", self.bytes.len()))
+        // The header, and 21 bytes for each day with a figure; a refused day has fewer.
+        if self.report.len() != 16 + 21 * self.cases.len() {
+            return Err("a day of a timed log has no figure".into());
+        }
+        let mut text = vec![0; self.report.len()];
+        let outcome = office::report(&self.bytes, &mut answers, &mut text);
+        if outcome != Outcome::Written(text.len()) || text != self.report.as_bytes() {
+            return Err(format!(
+                "report of a log of {} bytes: {outcome:?}",
+                self.bytes.len()
+            ));
+        }
+        Ok(())
     }
 }
 
@@ -521,17 +535,40 @@ fn measure_days(timed: &Timed) -> Vec<Ratio> {
 struct LogTimes {
     not_cleared: f64,
     cleared: f64,
+    report: f64,
     plain: f64,
     routine: f64,
     plain_pass: f64,
 }
 
-/// The five ways over one log, each a pass of its own; the buffers are lent to the first two.
-fn ways<'a>(
-    log: &'a Log,
-    answers: &'a mut [u8],
-    cleared: &'a mut [u8],
-) -> [Box<dyn FnMut() + 'a>; 5] {
+/// The buffers that are lent for one log, each of the length needed.
+struct Buffers {
+    answers: Vec<u8>,
+    cleared: Vec<u8>,
+    reported: Vec<u8>,
+    text: Vec<u8>,
+}
+
+impl Buffers {
+    fn new(log: &Log) -> Self {
+        let answers = vec![0; log.expected.len()];
+        Buffers {
+            cleared: answers.clone(),
+            reported: answers.clone(),
+            answers,
+            text: vec![0; log.report.len()],
+        }
+    }
+}
+
+/// The six ways over one log, each a pass of its own; the buffers are lent to the first three.
+fn ways<'a>(log: &'a Log, buffers: &'a mut Buffers) -> [Box<dyn FnMut() + 'a>; 6] {
+    let Buffers {
+        answers,
+        cleared,
+        reported,
+        text,
+    } = buffers;
     let read = |buffer: &mut [u8]| black_box(office::read_log(black_box(&log.bytes), buffer));
     [
         Box::new(move || {
@@ -540,6 +577,10 @@ fn ways<'a>(
         Box::new(move || {
             black_box(&mut *cleared).fill(0);
             read(black_box(&mut *cleared));
+        }),
+        Box::new(move || {
+            let (answers, text) = (black_box(&mut *reported), black_box(&mut *text));
+            black_box(office::report(black_box(&log.bytes), answers, text));
         }),
         Box::new(|| each(&log.cases, by_plain)),
         Box::new(|| each(&log.double, Readings::<f64>::inches)),
@@ -551,25 +592,23 @@ fn ways<'a>(
 }
 
 fn time_logs(logs: &[Log]) -> Vec<LogTimes> {
-    let buffer = |log: &Log| vec![0; log.expected.len()];
-    let mut answers: Vec<_> = logs.iter().map(buffer).collect();
-    let mut cleared = answers.clone();
+    let mut buffers: Vec<_> = logs.iter().map(Buffers::new).collect();
     let mut ways: Vec<_> = logs
         .iter()
-        .zip(&mut answers)
-        .zip(&mut cleared)
-        .flat_map(|((log, answers), cleared)| ways(log, answers, cleared))
+        .zip(&mut buffers)
+        .flat_map(|(log, buffers)| ways(log, buffers))
         .collect();
     let mut contenders: Vec<&mut dyn FnMut()> =
         ways.iter_mut().map(|way| &mut **way as _).collect();
     best(&mut contenders)
-        .chunks(5)
+        .chunks(6)
         .map(|times| LogTimes {
             not_cleared: times[0],
             cleared: times[1],
-            plain: times[2],
-            routine: times[3],
-            plain_pass: times[4],
+            report: times[2],
+            plain: times[3],
+            routine: times[4],
+            plain_pass: times[5],
         })
         .collect()
 }
@@ -586,6 +625,7 @@ fn measure_logs(logs: &[Log]) -> Vec<Ratio> {
         let named = [
             ("read_log, answer buffer not cleared", times.not_cleared),
             ("read_log, answer buffer cleared first", times.cleared),
+            ("its report, no buffer cleared", times.report),
             ("its days by the same sheet in plain i64", times.plain),
             ("its days by the routine in f64", times.routine),
             ("a plain pass that adds up its bytes", times.plain_pass),
@@ -607,6 +647,11 @@ fn measure_logs(logs: &[Log]) -> Vec<Ratio> {
             &format!("read_log / its days by the plain sheet, {kibibytes} KiB"),
             times.not_cleared / times.plain,
             Wanted::Nothing,
+        ));
+        ratios.push(ratio(
+            &format!("report / read_log, {kibibytes} KiB"),
+            times.report / times.not_cleared,
+            Wanted::AtMost(3.0),
         ));
     }
     let [_, half, entire] = &times[..] else {

@@ -7,8 +7,8 @@ pub mod sheet;
 pub mod tables;
 pub mod text;
 
-pub use log::{answer_bytes, read_log, write};
-pub use text::report;
+pub use log::{answer_bytes, put, read_log, write};
+pub use text::{refused_line, report};
 
 use crate::{Day, Earlier, Station, Verdict};
 use std::ops::RangeInclusive;

@@ -1,4 +1,4 @@
-//! The text that the report program prints for a log, as scope document 01 lays it out.
+//! The report of a log as text, as scope document 01 lays it out.
 use super::log::{answers, Answer};
 use crate::Verdict;
 
@@ -9,9 +9,15 @@ fn shown(verdict: &Verdict) -> String {
     }
 }
 
+/// The one line of a log that is refused, or whose answers do not fit their buffer.
+pub fn refused_line(number: u32, value: usize) -> String {
+    format!("REFUSED {number} {value}\n")
+}
+
+/// The report of a log with room for all its answers.
 pub fn report(log: &[u8]) -> String {
     let answers = match answers(log) {
-        Err((number, offset)) => return format!("REFUSED {number} {offset}\n"),
+        Err((number, offset)) => return refused_line(number, offset),
         Ok(answers) => answers,
     };
     let mut text = String::from("STN YEAR DAY ET\n");
@@ -30,6 +36,7 @@ pub fn report(log: &[u8]) -> String {
 #[cfg(test)]
 mod tests {
     use super::*;
+    use crate::days::{answered_log, Random};
 
     const WORKED: &[u8] = b"\x01LIDW\x00\x9a\x06\xe0\x02\x66\xfe\x74\x02\x4e\x00\x64\x01\xf1\
         \x02\x07\xd8\x00\x0a\x00\xc8\x00\xc8\x00\xc8\x00\xc8\x00\x00\x80\x00\
@@ -48,6 +55,13 @@ mod tests {
     fn the_header_alone_and_a_refused_log() {
         assert_eq!(report(&[]), "STN YEAR DAY ET\n");
         assert_eq!(report(&WORKED[..69]), "REFUSED 2 53\n");
+        assert_eq!(refused_line(12, 32), "REFUSED 12 32\n");
+    }
+
+    #[test]
+    fn the_longest_report() {
+        let log = answered_log(&mut Random::new(4));
+        assert_eq!((log.len(), report(&log).len()), (65_520, 80_929));
     }
 
     #[test]
