@@ -1,9 +1,9 @@
-/* Hands the bytes of standard input to the proved library and aborts if a promise of read_log is broken.
+/* Hands the bytes of standard input to the proved library and aborts if a promise of read_log or of report is broken.
  *
  * The first two bytes choose the answer buffer's length, the rest is the log. Each input is read in several placements:
  * log and answer buffer end at a page that may not be touched; then they begin right after one; then, when files are
  * named on the command line instead, both lie in heap blocks of their exact size, for valgrind or AddressSanitizer.
- * The log is mapped read-only.
+ * In each placement the log's report is asked for too, with text buffers of several lengths. The log is mapped read-only.
  *
  * Under AFL++ this program is its own fork server and takes many inputs in one process; run by hand it takes one. */
 #define _GNU_SOURCE
@@ -25,6 +25,9 @@ enum {
     /* A log refused as too long, with room to spare. */
     LOG_ROOM = LONGEST_LOG + 2 * PAGE,
     ANSWER_ROOM = 32 * PAGE,
+    LONGEST_REPORT = 80929,
+    /* Room for the longest report, and for some bytes more. */
+    TEXT_ROOM = 20 * PAGE,
     STATION_LENGTH = 19,
     DAY_LENGTH = 17,
     STATION_ANSWER_LENGTH = 5,
@@ -62,7 +65,7 @@ static struct region guarded(size_t size, int protection) {
     return (struct region){shown, written, size};
 }
 
-static struct region log_region, answer_region;
+static struct region log_region, answer_region, text_region;
 
 static uint32_t refusal(uint64_t returned) { return (uint32_t)(returned >> 32); }
 static uint32_t value(uint64_t returned) { return (uint32_t)returned; }
@@ -114,32 +117,92 @@ static void check_answers(const uint8_t *log, size_t log_length, const uint8_t *
     require((size_t)(answer - answers) == length, "the length is that of the answers");
 }
 
-/* A byte of the answer buffer before it is lent: another one in each pass, so that a byte left alone is seen. */
+/* A byte of a buffer before it is lent: another one in each pass, so that a byte left alone is seen. */
 static uint8_t filler(size_t place, uint8_t pass) { return (uint8_t)(place * 7 + pass); }
 
-static void require_filler(const uint8_t *bytes, size_t from, size_t to, uint8_t pass) {
-    for (size_t i = from; i < to; i++) {
-        require(bytes[i] == filler(i, pass), "bytes outside the answers stay as they were");
+/* A block of memory, of which `lent` is lent for `length` bytes; the rest is watched. */
+struct buffer {
+    uint8_t *block;
+    size_t size;
+    uint8_t *lent;
+    size_t length;
+};
+
+static void fill(struct buffer buffer, uint8_t pass) {
+    for (size_t i = 0; i < buffer.size; i++) {
+        buffer.block[i] = filler(i, pass);
     }
 }
 
-/* One pass over a whole block of memory, of which `answers` lends `length` bytes. Returns what the library returned. */
-static uint64_t run(const uint8_t *log, size_t log_length, uint8_t *block, size_t size, uint8_t *answers, size_t length,
-                    uint8_t pass) {
-    for (size_t i = 0; i < size; i++) {
-        block[i] = filler(i, pass);
+/* Every byte but the first `wrote` that were lent is as it was filled. */
+static void require_filler(struct buffer buffer, size_t wrote, uint8_t pass) {
+    require(wrote <= buffer.length, "no more is written than was lent");
+    size_t start = (size_t)(buffer.lent - buffer.block);
+    for (size_t i = 0; i < buffer.size; i++) {
+        bool written = i >= start && i < start + wrote;
+        require(written || buffer.block[i] == filler(i, pass), "bytes beyond what is written stay as they were");
     }
-    uint64_t returned = fuortwem_read_log(log, log_length, answers, length);
-    size_t start = (size_t)(answers - block);
-    size_t wrote = refusal(returned) == 0 ? value(returned) : 0;
-    require(wrote <= length, "no more is written than was lent");
-    require_filler(block, 0, start, pass);
-    require_filler(block, start + wrote, size, pass);
+}
+
+static size_t length_written(uint64_t returned) { return refusal(returned) == 0 ? value(returned) : 0; }
+
+/* One pass. Returns what the library returned. */
+static uint64_t run(const uint8_t *log, size_t log_length, struct buffer answers, uint8_t pass) {
+    fill(answers, pass);
+    uint64_t returned = fuortwem_read_log(log, log_length, answers.lent, answers.length);
+    require_filler(answers, length_written(returned), pass);
     return returned;
 }
 
-/* The length that the first two bytes ask for, of an answer buffer that needs `needed` bytes. */
-static size_t chosen_length(uint32_t choice, size_t needed) {
+/* The text is the line of a refused log, or the header and a line for each day's answer. */
+static void check_text(const uint8_t *text, size_t length, uint64_t read, const uint8_t *answers) {
+    static const char header[] = "STN YEAR DAY ET\n";
+    if (refusal(read) != 0) {
+        char line[64];
+        int expected = snprintf(line, sizeof line, "REFUSED %u %u\n", refusal(read), value(read));
+        require(length == (size_t)expected && memcmp(text, line, length) == 0, "a refused log's report is its one line");
+        return;
+    }
+    size_t lines = 1, ended = 0;
+    for (const uint8_t *answer = answers; answer < answers + value(read);) {
+        lines += answer[0] != 5;
+        answer += answer[0] == 5 ? STATION_ANSWER_LENGTH : DAY_ANSWER_LENGTH;
+    }
+    for (size_t i = 0; i < length; i++) {
+        ended += text[i] == '\n';
+    }
+    require(length >= sizeof header - 1 && memcmp(text, header, sizeof header - 1) == 0, "a report begins with the header");
+    require(text[length - 1] == '\n' && ended == lines, "a report has a line for each day's answer");
+}
+
+/* One report, for a log that was just read into `answers` with the result `read`. Returns what the library returned. */
+static uint64_t report(const uint8_t *log, size_t log_length, struct buffer answers, uint64_t read, struct buffer text,
+                       uint8_t pass) {
+    static uint8_t kept[ANSWER_ROOM];
+    size_t wrote = length_written(read);
+    memcpy(kept, answers.lent, wrote);
+    fill(answers, pass);
+    fill(text, pass);
+    uint64_t returned = fuortwem_report(log, log_length, answers.lent, answers.length, text.lent, text.length);
+    require_filler(answers, wrote, pass);
+    require(memcmp(kept, answers.lent, wrote) == 0, "a report leaves the answers as read_log does");
+    require(refusal(returned) == 0 || refusal(returned) == TOO_SHORT_A_BUFFER, "a report is written or needs a longer buffer");
+    require((refusal(returned) == 0) == (value(returned) <= text.length), "a report is written where it fits");
+    require_filler(text, length_written(returned), pass);
+    return returned;
+}
+
+/* `length` bytes at the end of a region or at its front, and as much around them as shows a write that strays, without
+ * filling the whole region for every input. */
+static struct buffer placed(struct region region, size_t length, bool at_end) {
+    size_t watched = length + 64 < region.size ? length + 64 : region.size;
+    uint8_t *end = region.shown + region.size;
+    return at_end ? (struct buffer){end - watched, watched, end - length, length}
+                  : (struct buffer){region.shown, watched, region.shown, length};
+}
+
+/* The length that two bytes ask for, of a buffer that needs `needed` bytes. */
+static size_t chosen_length(uint32_t choice, size_t needed, size_t room) {
     size_t step = choice >> 2;
     size_t length = step;
     switch (choice & 3) {
@@ -147,15 +210,23 @@ static size_t chosen_length(uint32_t choice, size_t needed) {
     case 1: length = needed - (needed == 0 ? 0 : 1 + step % needed); break;
     case 2: length = needed + step; break;
     }
-    return length < ANSWER_ROOM ? length : ANSWER_ROOM;
+    return length < room ? length : room;
 }
 
-static void run_in_heap(const uint8_t *log, size_t log_length, size_t length, uint64_t expected) {
-    uint8_t *copy = malloc(log_length), *answers = malloc(length);
+static void run_in_heap(const uint8_t *log, size_t log_length, size_t length, uint64_t expected, size_t text_needed) {
+    uint8_t *copy = malloc(log_length), *answer_block = malloc(length);
+    struct buffer answers = {answer_block, length, answer_block, length};
     memcpy(copy, log, log_length);
-    require(run(copy, log_length, answers, length, answers, length, 3) == expected, "the same log gets the same result");
+    require(run(copy, log_length, answers, 7) == expected, "the same log gets the same result");
+    for (size_t lent = text_needed - 1; lent <= text_needed; lent++) {
+        uint8_t *text_block = malloc(lent);
+        struct buffer text = {text_block, lent, text_block, lent};
+        uint64_t returned = report(copy, log_length, answers, expected, text, 8);
+        require(value(returned) == text_needed, "the same log gets a report of the same length");
+        free(text_block);
+    }
     free(copy);
-    free(answers);
+    free(answer_block);
 }
 
 static void try_input(const uint8_t *input, size_t size, bool in_heap) {
@@ -175,26 +246,42 @@ static void try_input(const uint8_t *input, size_t size, bool in_heap) {
     require((refusal(unlent) == 0) == (log_length == 0), "without a buffer only the empty log is accepted");
 
     size_t needed = sound ? value(unlent) : 0;
-    size_t length = chosen_length(choice, needed);
+    size_t length = chosen_length(choice, needed, ANSWER_ROOM);
     uint64_t expected = sound && length >= needed ? needed : unlent;
-    /* Enough of the memory around the answers to see a write that strays, without filling all of it for every input. */
-    size_t watched = length + 64 < answer_region.size ? length + 64 : answer_region.size;
 
-    uint8_t *last = end - length;
-    uint64_t returned = run(last_log, log_length, end - watched, watched, last, length, 1);
+    struct buffer last = placed(answer_region, length, true);
+    uint64_t returned = run(last_log, log_length, last, 1);
     require(returned == expected, "refused as without a buffer, or accepted once the buffer is long enough");
-    size_t wrote = refusal(returned) == 0 ? value(returned) : 0;
-    check_answers(last_log, refusal(returned) == 0 ? log_length : 0, last, wrote);
-    static uint8_t kept[ANSWER_ROOM];
-    memcpy(kept, last, wrote);
+    size_t wrote = length_written(returned);
+    check_answers(last_log, refusal(returned) == 0 ? log_length : 0, last.lent, wrote);
+    static uint8_t kept[ANSWER_ROOM], kept_text[TEXT_ROOM];
+    memcpy(kept, last.lent, wrote);
+
+    uint64_t too_short = report(last_log, log_length, last, expected, placed(text_region, 0, true), 2);
+    size_t text_needed = value(too_short);
+    require(refusal(too_short) == TOO_SHORT_A_BUFFER && text_needed <= LONGEST_REPORT, "a report has 1 to 80,929 bytes");
+    returned = report(last_log, log_length, last, expected, placed(text_region, text_needed - 1, true), 3);
+    require(returned == too_short, "one byte less than a report needs is too short");
+    struct buffer text = placed(text_region, text_needed, true);
+    returned = report(last_log, log_length, last, expected, text, 4);
+    require(returned == text_needed, "a buffer of the length that a report needs is long enough");
+    check_text(text.lent, text_needed, expected, last.lent);
+    memcpy(kept_text, text.lent, text_needed);
 
     memcpy(log_region.written, log, log_length);
-    uint8_t *first = answer_region.shown;
-    returned = run(log_region.shown, log_length, first, watched, first, length, 2);
-    require(returned == expected && memcmp(kept, first, wrote) == 0, "the same log gets the same answers");
+    struct buffer first = placed(answer_region, length, false);
+    returned = run(log_region.shown, log_length, first, 5);
+    require(returned == expected && memcmp(kept, first.lent, wrote) == 0, "the same log gets the same answers");
+
+    /* The two bytes turned by two bits, so that each kind of text buffer meets each kind of answer buffer. */
+    size_t text_length = chosen_length((choice << 2 | choice >> 14) & 0xFFFF, text_needed, TEXT_ROOM);
+    text = placed(text_region, text_length, false);
+    returned = report(log_region.shown, log_length, first, expected, text, 6);
+    require(returned == (text_length < text_needed ? too_short : text_needed), "the same log needs the same length");
+    require(memcmp(kept_text, text.lent, length_written(returned)) == 0, "the same log gets the same report");
 
     if (in_heap) {
-        run_in_heap(log, log_length, length, expected);
+        run_in_heap(log, log_length, length, expected, text_needed);
     }
 }
 
@@ -258,6 +345,7 @@ static void serve(void) {
 int main(int count, char **arguments) {
     log_region = guarded(LOG_ROOM, PROT_READ);
     answer_region = guarded(ANSWER_ROOM, PROT_READ | PROT_WRITE);
+    text_region = guarded(TEXT_ROOM, PROT_READ | PROT_WRITE);
     for (int i = 1; i < count; i++) {
         FILE *file = fopen(arguments[i], "rb");
         require(file != NULL, "a file that can be read");
