@@ -1,6 +1,6 @@
 /* Hands the bytes of standard input to the proved library and aborts if a promise of read_log or of report is broken.
  *
- * The first two bytes choose the answer buffer's length, the rest is the log. Each input is read in several placements:
+ * The first two bytes choose the lengths of the answer buffer and of a text buffer, the rest is the log. Each input is read in several placements:
  * log and answer buffer end at a page that may not be touched; then they begin right after one; then, when files are
  * named on the command line instead, both lie in heap blocks of their exact size, for valgrind or AddressSanitizer.
  * In each placement the log's report is asked for too, with text buffers of several lengths. The log is mapped read-only.

@@ -89,7 +89,7 @@ uint64_t fuortwem_judge(
  *   kind 3, day with a figure, 9 bytes: year (2), d (2), figure in 0.0001 inch (4)
  *   kind 4, day refused, 9 bytes: year (2), d (2), the refusal's number, 6 to 11 (4)
  *
- * An answer is shorter than its record, so a buffer of 65,536 bytes is enough for every log.
+ * A buffer of 34,682 bytes is enough for every log.
  *
  * Asked of the caller: `log` may be read for `log_length` bytes, and `answers` read and written for `answers_length` bytes, during the whole
  * call; the two do not overlap; nothing else writes to the log or touches the answers meanwhile; neither pointer is NULL, even where its

@@ -27,11 +27,13 @@ fn main() -> ExitCode {
             .collect(),
     );
     let logs = LOG_SIZES.map(|size| Log::of_size(size, stations[0], &mut random));
+    let bad_dates = bad_dates(&stations[0], &mut random);
 
     println!("Processor: {}", processor());
     let checked = check_random(&mut random)
         .and_then(|report| check_timed(&timed).map(|()| report))
-        .and_then(|report| logs.iter().try_for_each(Log::check).map(|()| report));
+        .and_then(|report| logs.iter().try_for_each(Log::check).map(|()| report))
+        .and_then(|report| check_report(&bad_dates).map(|()| report));
     match checked {
         Ok(report) => println!("{report}"),
         Err(wrong) => {
@@ -41,6 +43,7 @@ fn main() -> ExitCode {
     }
     let mut ratios = measure_days(&timed);
     ratios.extend(measure_logs(&logs));
+    ratios.push(measure_bad_dates(&bad_dates));
     println!("\n{:<52}{:>8}  to reach", "Ratio", "measured");
     for ratio in ratios {
         println!("{ratio}");
@@ -350,16 +353,33 @@ impl Log {
         if self.report.len() != 16 + 21 * self.cases.len() {
             return Err("a day of a timed log has no figure".into());
         }
-        let mut text = vec![0; self.report.len()];
-        let outcome = office::report(&self.bytes, &mut answers, &mut text);
-        if outcome != Outcome::Written(text.len()) || text != self.report.as_bytes() {
-            return Err(format!(
-                "report of a log of {} bytes: {outcome:?}",
-                self.bytes.len()
-            ));
-        }
-        Ok(())
+        check_report(&self.bytes)
     }
+}
+
+/// The answers and the report of a log are those of the second implementation.
+fn check_report(bytes: &[u8]) -> Result<(), String> {
+    let expected = log::answer_bytes(bytes).expect("a log without a fault");
+    let report = second::report(bytes);
+    let (mut answers, mut text) = (vec![0; expected.len()], vec![0; report.len()]);
+    let outcome = office::report(bytes, &mut answers, &mut text);
+    if outcome == Outcome::Written(text.len()) && answers == expected && text == report.as_bytes() {
+        return Ok(());
+    }
+    Err(format!(
+        "report of a log of {} bytes: {outcome:?}",
+        bytes.len()
+    ))
+}
+
+/// A full log of days in a year that the calendar lacks: each is read fast, and has a line all the same.
+fn bad_dates(station: &Station, random: &mut Random) -> Vec<u8> {
+    let mut bytes = days::station_record(station).to_vec();
+    let record = days::day_record(&weather(random, station, 1_949, 1));
+    while bytes.len() + record.len() <= LOG_SIZES[LOG_SIZES.len() - 1] {
+        bytes.extend(record);
+    }
+    bytes
 }
 
 fn handed(
@@ -664,4 +684,25 @@ fn measure_logs(logs: &[Log]) -> Vec<Ratio> {
         Wanted::AtMost(2.1),
     ));
     ratios
+}
+
+/// The report of a full log of bad dates against the log read alone.
+fn measure_bad_dates(bytes: &[u8]) -> Ratio {
+    let report = second::report(bytes);
+    let mut answers = vec![0; log::answer_bytes(bytes).map_or(0, |answers| answers.len())];
+    let mut reported = answers.clone();
+    let mut text = vec![0; report.len()];
+    let mut read = || {
+        black_box(office::read_log(black_box(bytes), black_box(&mut answers)));
+    };
+    let mut write = || {
+        let (answers, text) = (black_box(&mut reported), black_box(&mut text));
+        black_box(office::report(black_box(bytes), answers, text));
+    };
+    let times = best(&mut [&mut read, &mut write]);
+    ratio(
+        "report / read_log, 64 KiB of bad dates",
+        times[1] / times[0],
+        Wanted::Nothing,
+    )
 }

@@ -118,7 +118,7 @@ pub extern "C" fn fuortwem_read_log(log: &[u8], answers: &mut [u8]) -> u64
     }
 }
 
-// A log's report as text, with the answers as above. The high half of the result is 0 and the low half the length of the text written; or the high
+// A log's report as text, with the answers as `fuortwem_read_log` leaves them. The high half of the result is 0 and the low half the length of the text written; or the high
 // half is 12 and the low half the length that the text buffer needs.
 #[no_mangle]
 pub extern "C" fn fuortwem_report(log: &[u8], answers: &mut [u8], text: &mut [u8]) -> u64

@@ -3,7 +3,7 @@ pub mod Written
 pub mod Laid
 pub mod Going
 pub mod Prints
-pub mod Handed
+pub mod FromLog
 pub mod Digits
 pub mod Lengths
 pub mod Examples

@@ -22,17 +22,17 @@ use Rattle.day.proofs.Passed.{day-high}
 use Rattle.records.specs.Bytes.{wordAt}
 use Rattle.records.specs.Record.{dayAt}
 use Rattle.records.proofs.Choice.{by-cond}
-use Rattle.log.specs.Answers.{verdictOf}
+use Rattle.log.specs.Answers.{verdictOf, bytesOf}
 use Rattle.log.specs.History.{goodDate, earlierMeans}
-use Rattle.log.specs.Log.{Entry, station, day, answersOf, readingOf, entriesOf, outcomeOf, settled}
+use Rattle.log.specs.Log.{Entry, station, day, answersTo, answersOf, readingOf, entriesOf, outcomeOf, settled}
 use Rattle.log.specs.declared.Outcome.{Outcome}
 use Rattle.log.specs.declared.Outcome.the-variants as outcome
 use Rattle.log.proofs.Calendar.{date-tells}
 use Rattle.log.proofs.Days.{good-date}
 use Rattle.log.proofs.Longest.{daysOf, answers-most, days-most}
-use Rattle.log.proofs.OutcomeSize.{Small, outcome-small}
+use Rattle.log.proofs.OutcomeSize.{Small, outcome-small, outcome-alike}
 use Rattle.log.proofs.Stations.{Sound, SoundEntries, sound-reading, station-constants}
-use Rattle.lines.specs.Report.{linesFrom, linesOf, textOf, reportOf, AreBytes, LongEnough}
+use Rattle.lines.specs.Report.{linesFrom, linesOf, textOf, reportOf, wholeReport, AreBytes, LongEnough}
 use Rattle.lines.specs.Text.{header, verdictText, dayLine}
 use Rattle.lines.specs.declared.walk.Open.{Open}
 use Rattle.lines.specs.declared.walk.Open.the-variants.{NoBlock, In}
@@ -102,13 +102,13 @@ module _ (s : List ℕ) (bytes : AreBytes s) where
       )
 
   abbrev Short : Outcome → Type 0
-  Short o = length (textOf o (answersOf (entriesOf (readingOf s)))) ≤ 80929
+  Short o = length (textOf o (answersTo s)) ≤ 80929
 
-  text-most : length s ≤ 65536 → length (header ++ linesOf (answersOf (entriesOf (readingOf s)))) ≤ 80929
+  text-most : length s ≤ 65536 → length (header ++ linesOf (answersTo s)) ≤ 80929
   text-most short =
       omega (
         arith,
-        length-append header (linesOf (answersOf (entriesOf (readingOf s)))),
+        length-append header (linesOf (answersTo s)),
         lines-most (entriesOf (readingOf s)) (sound-reading s) NoBlock,
         days-most s short,
       )
@@ -128,5 +128,10 @@ module _ (s : List ℕ) (bytes : AreBytes s) where
       (λ e. any-short (ltb-false 65536 (length s) e) (settled (readingOf s) size)) (outcome-small s size)
 
 pub long-enough : LongEnough 34682 80929
-unfolding LongEnough
-long-enough s bytes = (answers-most s, report-most s bytes 34682)
+unfolding LongEnough wholeReport
+long-enough s bytes = (answers-most s, report-most s bytes (length (bytesOf (answersTo s))))
+
+-- with so many bytes for the answers, the report is the whole one
+pub whole : (s : List ℕ) → reportOf s 34682 ≡ wholeReport s
+unfolding wholeReport reportOf
+whole s = ap (λ (o : Outcome). textOf o (answersTo s)) (outcome-alike s 34682 (answers-most s))

@@ -8,22 +8,22 @@ use Rattle.records.specs.Record.{stationAt, dayAt, recordAt}
 use Rattle.log.specs.Log.{readFrom, readingOf, outcomeOf}
 use Rattle.log.proofs.Sample.{sample}
 use Rattle.log.proofs.WorkedLog.{worked}
-use Rattle.lines.specs.Report.{linesOf, reportOf}
+use Rattle.lines.specs.Report.{linesOf, reportOf, wholeReport}
 use Rattle.lines.specs.Text.{newline, leading, digits, padded, inches, verdictText, header, dayLine, refusedLine}
 
 -- `STN YEAR DAY ET`, `LIDW 2008 010 R7`, `LIDW 2008 011 R7`, `LIDW 2008 012 0.0000`
-pub report : reportOf sample 34682 ≡
+pub report : wholeReport sample ≡
     83 ∷ 84 ∷ 78 ∷ 32 ∷ 89 ∷ 69 ∷ 65 ∷ 82 ∷ 32 ∷ 68 ∷ 65 ∷ 89 ∷ 32 ∷ 69 ∷ 84 ∷ newline
     ∷ 76 ∷ 73 ∷ 68 ∷ 87 ∷ 32 ∷ 50 ∷ 48 ∷ 48 ∷ 56 ∷ 32 ∷ 48 ∷ 49 ∷ 48 ∷ 32 ∷ 82 ∷ 55 ∷ newline
     ∷ 76 ∷ 73 ∷ 68 ∷ 87 ∷ 32 ∷ 50 ∷ 48 ∷ 48 ∷ 56 ∷ 32 ∷ 48 ∷ 49 ∷ 49 ∷ 32 ∷ 82 ∷ 55 ∷ newline
     ∷ 76 ∷ 73 ∷ 68 ∷ 87 ∷ 32 ∷ 50 ∷ 48 ∷ 48 ∷ 56 ∷ 32 ∷ 48 ∷ 49 ∷ 50 ∷ 32 ∷ 48 ∷ 46 ∷ 48 ∷ 48 ∷ 48 ∷ 48 ∷ newline
     ∷ []
-unfolding reportOf outcomeOf readingOf readFrom recordAt stationAt dayAt wordAt signedOf signedAt dayLine padded verdictText inches digits leading
+unfolding wholeReport reportOf outcomeOf readingOf readFrom recordAt stationAt dayAt wordAt signedOf signedAt dayLine padded verdictText inches digits leading
 report = λ i. header ++ linesOf (worked i)
 
 -- cut off within day 12, whose kind byte is at 53: `REFUSED 2 53`
-pub cut-off : reportOf (take 69 sample) 34682 ≡ 82 ∷ 69 ∷ 70 ∷ 85 ∷ 83 ∷ 69 ∷ 68 ∷ 32 ∷ 50 ∷ 32 ∷ 53 ∷ 51 ∷ newline ∷ []
-unfolding reportOf outcomeOf readingOf readFrom recordAt stationAt dayAt wordAt signedOf signedAt refusedLine digits leading
+pub cut-off : wholeReport (take 69 sample) ≡ 82 ∷ 69 ∷ 70 ∷ 85 ∷ 83 ∷ 69 ∷ 68 ∷ 32 ∷ 50 ∷ 32 ∷ 53 ∷ 51 ∷ newline ∷ []
+unfolding wholeReport reportOf outcomeOf readingOf readFrom recordAt stationAt dayAt wordAt signedOf signedAt refusedLine digits leading
 cut-off = refl
 
 -- 31 bytes for 32 of answers: `REFUSED 12 32`
@@ -31,7 +31,7 @@ pub answers-short : reportOf sample 31 ≡ 82 ∷ 69 ∷ 70 ∷ 85 ∷ 83 ∷ 69
 unfolding reportOf outcomeOf readingOf readFrom recordAt stationAt dayAt wordAt signedOf signedAt refusedLine digits leading
 answers-short = refl
 
--- "a log of 0 bytes prints the header alone", with a buffer of 0 bytes too
-pub empty : reportOf [] 0 ≡ header
-unfolding reportOf outcomeOf readingOf readFrom recordAt
+-- "a log of 0 bytes prints the header alone"
+pub empty : wholeReport [] ≡ header
+unfolding wholeReport reportOf outcomeOf readingOf readFrom recordAt
 empty = refl

@@ -7,7 +7,7 @@ use Prim.Native.Nat.{ℕ, _≤_, _<_}
 use lib.Dec.{ltb}
 use lib.ListN.{length, drop, getD}
 use Rattle.log.specs.Answers.{bytesOf}
-use Rattle.log.specs.Log.{answersOf, readingOf, entriesOf, outcomeOf}
+use Rattle.log.specs.Log.{longest, outcomeOf, answersTo}
 use Rattle.log.specs.declared.Answer.{Answer}
 use Rattle.log.specs.declared.Answer.the-variants as answer
 use Rattle.log.specs.declared.Outcome.{Outcome}
@@ -22,6 +22,7 @@ use Rattle.lines.specs.declared.walk.Open.the-variants.{NoBlock, In}
 abbrev pub aboutBlock : Open → List ℕ
 aboutBlock block = []
 
+-- "An answer kind that a request adds prints its fields after the kind in the same way, figures in inches, in answer order."
 -- What an answer prints: a day has its line, with its block's code. "A station prints no line of its own", but where it stands the block before it
 -- has ended. No log answers a day before a station: it is refused with 4 (`station-first` in log/proofs/Longest.antt).
 abbrev pub lineOf : Open → Answer → List ℕ
@@ -42,14 +43,18 @@ linesFrom block (a ∷ rest) = lineOf block a ++ linesFrom (openAfter block a) r
 abbrev pub linesOf : List Answer → List ℕ
 linesOf answers = linesFrom NoBlock answers
 
--- "a log of 0 bytes prints the header alone"; "a refused log prints only `REFUSED`, the number and the offset or length"
+-- "a log of 0 bytes prints the header alone"; a refused log prints its line and nothing else
 abbrev pub textOf : Outcome → List Answer → List ℕ
 textOf (outcome.Written n) answers = header ++ linesOf answers
 textOf (outcome.Refused number value) answers = refusedLine number value
 
 -- the report of a log that is read with an answer buffer of `size` bytes
 unfoldable pub reportOf : List ℕ → ℕ → List ℕ
-reportOf s size = textOf (outcomeOf s size) (answersOf (entriesOf (readingOf s)))
+reportOf s size = textOf (outcomeOf s size) (answersTo s)
+
+-- the report of a log, with room for its answers: 12 does not hold
+unfoldable pub wholeReport : List ℕ → List ℕ
+wholeReport s = reportOf s (length (bytesOf (answersTo s)))
 
 -- ---- a lent text buffer
 
@@ -75,5 +80,4 @@ AreBytes s = (i : ℕ) → getD s i 0 < 256
 -- Buffers of so many bytes are long enough for every log: no log of at most 65,536 bytes has longer answers, and no log a longer report.
 unfoldable pub LongEnough : ℕ → ℕ → Type 0
 LongEnough answers text =
-    (s : List ℕ) → AreBytes s
-    → (length s ≤ 65536 → length (bytesOf (answersOf (entriesOf (readingOf s)))) ≤ answers) × (length (reportOf s answers) ≤ text)
+    (s : List ℕ) → AreBytes s → (length s ≤ longest → length (bytesOf (answersTo s)) ≤ answers) × (length (wholeReport s) ≤ text)

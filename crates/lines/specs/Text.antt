@@ -53,7 +53,7 @@ field text = space ∷ text
 
 -- `STN YEAR DAY ET`
 abbrev pub header : List ℕ
-header = 83 ∷ 84 ∷ 78 ∷ 32 ∷ 89 ∷ 69 ∷ 65 ∷ 82 ∷ 32 ∷ 68 ∷ 65 ∷ 89 ∷ 32 ∷ 69 ∷ 84 ∷ newline ∷ []
+header = 83 ∷ 84 ∷ 78 ∷ space ∷ 89 ∷ 69 ∷ 65 ∷ 82 ∷ space ∷ 68 ∷ 65 ∷ 89 ∷ space ∷ 69 ∷ 84 ∷ newline ∷ []
 
 -- the line of a day: code, year, day, and the inches or the refusal
 unfoldable pub dayLine : Code → ℕ → ℕ → Verdict → List ℕ

@@ -4,9 +4,9 @@ ghost use mathlib.Core.Path.{_≡_};
 ghost use Prim.Native.Nat.{_≤_};
 ghost use lib.ListN.{length};
 ghost use Rattle.log.specs.Demand.{FiguresOwed};
-ghost use Rattle.log.specs.Log.{bufferAfter};
+ghost use Rattle.log.specs.Log.{longest, bufferAfter};
 ghost use Rattle.log.specs.declared.Answer.{Answer as Answered};
-ghost use Rattle.lines.specs.Report.{reportOf, linesOf, Prints};
+ghost use Rattle.lines.specs.Report.{linesOf, reportOf, wholeReport, Prints};
 ghost use Rattle.lines.specs.Text.{header as Text·header};
 ghost use Rattle.lines.specs.Text.{refusedLine};
 ghost use Rattle.lines.specs.Walk.{Holds};
@@ -39,7 +39,7 @@ fn print_refused(number: u8, value: usize, text: &mut [u8]) -> Printed
 
 // The header and the lines of the answers that the first n bytes hold. They are counted first, so that a text buffer that is too short is left as it was.
 fn print_answers(answers: &[u8], n: usize, text: &mut [u8]) -> Printed
-    requires { ⌜ n ≤ 65536 ⌝ }
+    requires { ⌜ n ≤ longest ⌝ }
     requires { ⌜ ((all : List Answered) × Holds (now answers) n all) ⌝ }
     ensures { λ r. ⌜ ((all : List Answered) → Holds (now (answers .entry)) n all → Prints (Text·header ++ linesOf all) (now (text .entry)) r (now (text .exit))) ⌝ }
 {
@@ -67,7 +67,7 @@ pub fn write_report(log: &[u8], answers: &mut [u8], text: &mut [u8]) -> Printed
 
 // Reads a log and writes its report whole: both buffers are long enough for every log.
 pub fn whole_report(log: &[u8], answers: &mut [u8; 34_682], text: &mut [u8; 80_929]) -> usize
-    ensures { λ r. ⌜ AtFront (now (text .entry)) (reportOf (now (log .entry)) 34682) (now (text .exit)) r × (r ≤ 80929) ⌝ }
+    ensures { λ r. ⌜ AtFront (now (text .entry)) (wholeReport (now (log .entry))) (now (text .exit)) r × (r ≤ length (now (text .entry))) ⌝ }
     ensures { λ _. ⌜ now (answers .exit) ≡ bufferAfter (now (log .entry)) (now (answers .entry)) ⌝ }
 {
     match write_report(log, answers, text) {

@@ -4,10 +4,11 @@ ghost use mathlib.Core.List.{List};
 ghost use mathlib.Core.Path.{_≡_};
 ghost use Prim.Native.Nat.{_+_, _≤_};
 ghost use lib.ListN.{length};
+ghost use Rattle.log.specs.Log.{longest};
 ghost use Rattle.log.specs.declared.Answer.{Answer as Answered};
 ghost use Rattle.lines.specs.Report.{lineOf, openAfter, linesOf};
 ghost use Rattle.lines.specs.Text.{dayLine};
-ghost use Rattle.lines.specs.Walk.{Holds, Laid};
+ghost use Rattle.lines.specs.Walk.{farthest, Holds, Laid};
 use crate::single::day_line;
 use crate::whole::put_day_line;
 use day::Code;
@@ -32,7 +33,7 @@ fn put_day(
     verdict: Verdict,
     writes: bool,
 ) -> usize
-    requires { ⌜ to ≤ 8000000 ⌝ }
+    requires { ⌜ to ≤ farthest ⌝ }
     requires { ⌜ (writes ≡ true → to + length (dayLine code year d verdict) ≤ length (now text)) ⌝ }
     ensures { λ r. ⌜ Laid writes (now (text .entry)) to (dayLine code year d verdict) (now (text .exit)) r × (r ≤ to + 64) ⌝ }
 {
@@ -45,7 +46,7 @@ fn put_day(
 
 // What an answer prints, from `to` on.
 fn put_line(text: &mut [u8], to: usize, block: Open, a: Answer, writes: bool) -> usize
-    requires { ⌜ to ≤ 8000000 ⌝ }
+    requires { ⌜ to ≤ farthest ⌝ }
     requires { ⌜ (writes ≡ true → to + length (lineOf block a) ≤ length (now text)) ⌝ }
     ensures { λ r. ⌜ Laid writes (now (text .entry)) to (lineOf block a) (now (text .exit)) r × (r ≤ to + 64) ⌝ }
 {
@@ -68,9 +69,9 @@ fn open_after(block: Open, a: Answer) -> Open
     }
 }
 
-// The lines of the answers that the first n bytes hold, from `start` on. No log has more than 65,536 bytes of them.
+// The lines of the answers that the first n bytes hold, from `start` on.
 pub fn put_lines(answers: &[u8], n: usize, text: &mut [u8], start: usize, writes: bool) -> usize
-    requires { ⌜ (n ≤ 65536) × (start ≤ 64) ⌝ }
+    requires { ⌜ (n ≤ longest) × (start ≤ 64) ⌝ }
     requires { ⌜ ((all : List Answered) × Holds (now answers) n all × (writes ≡ true → start + length (linesOf all) ≤ length (now text))) ⌝ }
     ensures { λ r. ⌜ ((all : List Answered) → Holds (now (answers .entry)) n all → Laid writes (now (text .entry)) start (linesOf all) (now (text .exit)) r) ⌝ }
 {

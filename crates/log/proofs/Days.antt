@@ -14,7 +14,7 @@ use Rattle.day.specs.declared.Verdict.{Verdict}
 use Rattle.log.specs.Answers.{dayAnswer, verdictOf, answerBytes, bytesOf}
 use Rattle.log.specs.Days.{DayAt, verdictAt}
 use Rattle.log.specs.History.{afterLast, goodDate}
-use Rattle.log.specs.Log.{day, answersOf, Reading, entriesOf, readingOf, outcomeOf, leaves, bufferAfter}
+use Rattle.log.specs.Log.{day, answersTo, answersOf, Reading, entriesOf, outcomeOf, leaves, bufferAfter}
 use Rattle.log.specs.declared.Outcome.{Outcome}
 use Rattle.log.specs.declared.Outcome.the-variants.{Written}
 use Rattle.log.proofs.Walked.{answers-append}
@@ -49,10 +49,10 @@ module _ {s : List ℕ} {i : ℕ} {x : Station} {y : Day} {earlier : Earlier} {g
       let own = answerBytes (dayAnswer y (verdictOf x (d .history) y)) in
       let front = bytesOf (answersOf (d .before)) in
       let back = bytesOf (answersOf (d .later)) in
-      let answers : bytesOf (answersOf (entriesOf (readingOf s))) ≡ front ++ (own ++ back) =
+      let answers : bytesOf (answersTo s) ≡ front ++ (own ++ back) =
       ap (λ (r : Reading). bytesOf (answersOf (entriesOf r))) (d .stands) ∙ answers-append (d .before) (day x (d .history) y ∷ d .later) in
       let whole : bufferAfter s buffer ≡ front ++ (own ++ (back ++ drop n buffer)) =
-      ap (λ (o : Outcome). leaves o (bytesOf (answersOf (entriesOf (readingOf s)))) buffer) e
+      ap (λ (o : Outcome). leaves o (bytesOf (answersTo s)) buffer) e
       ∙ ap (λ (l : List ℕ). l ++ drop n buffer) answers
       ∙ append-assoc front (own ++ back) (drop n buffer)
       ∙ ap (λ (l : List ℕ). front ++ l) (append-assoc own back (drop n buffer)) in

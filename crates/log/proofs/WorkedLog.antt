@@ -18,7 +18,7 @@ use Rattle.records.specs.Bytes.{wordAt, signedOf, signedAt}
 use Rattle.log.specs.Days.{DayAt}
 use Rattle.log.specs.Demand.{AnsweredDay}
 use Rattle.log.specs.History.{daysBefore, goodDate, counted, earlierMeans}
-use Rattle.log.specs.Log.{answersOf, readFrom, readingOf, entriesOf, outcomeOf, bufferAfter}
+use Rattle.log.specs.Log.{answersTo, readFrom, readingOf, entriesOf, outcomeOf, bufferAfter}
 use Rattle.log.specs.declared.Answer.the-variants as answer
 use Rattle.records.specs.Record.{stationAt, dayAt, recordAt}
 use Rattle.log.proofs.Sample.{sample, station, third}
@@ -38,7 +38,7 @@ unfolding judged standingOf holds stationAt dayAt wordAt signedOf signedAt isDat
 lacking = (refl, refl)
 
 -- LIDW; day 10 and day 11 of 2008 refused with 7; day 12 with the figure 0
-pub worked : answersOf (entriesOf (readingOf sample)) ≡
+pub worked : answersTo sample ≡
     answer.Station (stationAt sample 1 .code)
     ∷ answer.Day 2008 10 (Refused Missing) ∷ answer.Day 2008 11 (Refused Missing) ∷ answer.Day 2008 12 (Figure 0)
     ∷ []

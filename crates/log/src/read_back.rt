@@ -40,7 +40,7 @@ fn refusal_of(number: u32) -> Refusal
 }
 
 // The number of four bytes at i, the high ones first.
-fn long(s: &[u8], i: usize) -> u32
+fn four_at(s: &[u8], i: usize) -> u32
     requires { ⌜ i + 3 < length (now s) ⌝ }
     ensures { λ r. ⌜ r ≡ wordAt (now (s .entry)) i * 65536 + wordAt (now (s .entry)) (i + 2) ⌝ }
 {
@@ -58,7 +58,7 @@ pub fn answer_at(answers: &[u8], at: usize) -> Answer
     }
     let year = word(answers, at + 1);
     let d = word(answers, at + 3);
-    let value = long(answers, at + 5);
+    let value = four_at(answers, at + 5);
     if kind == 3 {
         return Answer::Day(year, d, Verdict::Figure(value));
     }

@@ -1,13 +1,14 @@
--- `lines::whole_report` meets its contract: no log needs a longer text buffer. Assumes nothing.
-use mathlib.Core.Path.{_≡_, subst₂}
+-- `lines::whole_report` meets its contract: no log needs a longer buffer. Assumes nothing.
+use mathlib.Core.Path.{_≡_, ap, _∙_, subst₂}
+use mathlib.Core.List.{List}
 use Prim.Native.Nat.{ℕ, _≤_}
 use native.Mathlib.Omega.{arith}
 use lib.ListN.{length}
 use denote.Ref.{now}
 use borrow.Author.Needs.{needs}
-use Rattle.lines.specs.Report.{reportOf, Prints, AreBytes}
+use Rattle.lines.specs.Report.{reportOf, wholeReport, Prints, AreBytes, LongEnough}
 use Rattle.lines.specs.declared.Printed.{Printed}
-use Rattle.lines.proofs.LongEnough.{report-most}
+use Rattle.lines.proofs.LongEnough.{long-enough, whole}
 use Rattle.lines.proofs.Prints.{never-needs, stands-in-front}
 use Rattle.lines.proofs.whole_report.Statement.{statement}
 use Rattle.lines.proofs.whole_report.Tie as tie
@@ -22,14 +23,15 @@ module _ (c : tie.After-write-report) where
   bytes : AreBytes (now (s .args .log))
   bytes i = omega (arith, known .shared-slice-known .given i)
 
-  fits : length (reportOf (now (s .args .log)) 34682) ≤ length (now (s .args .text))
-  fits = omega (arith, report-most (now (s .args .log)) bytes 34682)
+  fits : length (wholeReport (now (s .args .log))) ≤ length (now (s .args .text))
+  unfolding LongEnough
+  fits = omega (arith, long-enough (now (s .args .log)) bytes .1)
 
-  prints : {p : Printed} → c .write-report .result ≡ p → Prints (reportOf (now (s .args .log)) 34682) (now (s .args .text)) p (c .write-report .last .1 .1 .0)
+  prints : {p : Printed} → c .write-report .result ≡ p → Prints (wholeReport (now (s .args .log))) (now (s .args .text)) p (c .write-report .last .1 .1 .0)
   prints e =
       let long : length (now (s .args .answers)) ≡ 34682 = omega arith in
-      subst₂ (λ (n : ℕ) (p : Printed). Prints (reportOf (now (s .args .log)) n) (now (s .args .text)) p (c .write-report .last .1 .1 .0)) long e
-      (c .write-report .ensures .0)
+      let same = ap (reportOf (now (s .args .log))) long ∙ whole (now (s .args .log)) in
+      subst₂ (λ (r : List ℕ) (p : Printed). Prints r (now (s .args .text)) p (c .write-report .last .1 .1 .0)) same e (c .write-report .ensures .0)
 
 returns : tie.Need-returns
 returns c =

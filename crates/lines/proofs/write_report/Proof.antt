@@ -2,9 +2,9 @@
 use mathlib.Core.Path.{_≡_, subst}
 use denote.Ref.{now}
 use borrow.Author.Needs.{needs}
-use Rattle.log.specs.Log.{Read}
+use Rattle.log.specs.Log.{answersTo, Read}
 use Rattle.log.specs.declared.Outcome.{Outcome}
-use Rattle.lines.proofs.Handed.{answersTo, answers-few, answers-held, answers-text, refused-text}
+use Rattle.lines.proofs.FromLog.{answers-few, answers-held, answers-text, refused-text}
 use Rattle.lines.proofs.write_report.Statement.{statement}
 use Rattle.lines.proofs.write_report.Tie as tie
 

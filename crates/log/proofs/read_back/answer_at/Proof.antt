@@ -19,12 +19,12 @@ returns c = is-station (c .before .if1 .taken) (c .code-at .ensures)
 
 returns-2 : tie.Need-returns-2
 returns-2 c =
-    let value = c .before .long .ensures in
+    let value = c .before .four-at .ensures in
     is-figure (c .before .before .before .before .if1 .left) (c .before .before .before .word .ensures) (c .before .before .word2 .ensures) value (c .if2 .taken)
 
 returns-3 : tie.Need-returns-3
 returns-3 c =
-    let value = c .before .before .long .ensures in
+    let value = c .before .before .four-at .ensures in
     is-refusal (c .before .before .before .before .before .if1 .left) (c .before .before .before .before .word .ensures) (c .before .before .before .word2 .ensures) value
     (c .before .if2 .left) (c .refusal-of .ensures)
 

@@ -5,8 +5,7 @@ use mathlib.Core.List.{List, _++_}
 use Prim.Native.Nat.{ℕ, _≤_}
 use lib.ListN.{length, drop}
 use Rattle.log.specs.Answers.{bytesOf}
-use Rattle.log.specs.Log.{answersOf, readingOf, entriesOf, leaves, bufferAfter, Read}
-use Rattle.log.specs.declared.Answer.{Answer}
+use Rattle.log.specs.Log.{answersTo, leaves, bufferAfter, Read}
 use Rattle.log.specs.declared.Outcome.{Outcome}
 use Rattle.log.specs.declared.Outcome.the-variants.{Written, Refused}
 use Rattle.log.proofs.OutcomeSize.{Small, outcome-small, written-size}
@@ -14,10 +13,6 @@ use Rattle.lines.specs.Report.{linesOf, textOf, reportOf, Prints}
 use Rattle.lines.specs.Text.{header, refusedLine}
 use Rattle.lines.specs.Walk.{Holds}
 use Rattle.lines.specs.declared.Printed.{Printed}
-
--- the answers of the log
-abbrev pub answersTo : List ℕ → List Answer
-answersTo s = answersOf (entriesOf (readingOf s))
 
 module _ {s buffer after : List ℕ} where
   pub answers-few : {n : ℕ} → Read s buffer (Written n) after → n ≤ 65536
