@@ -25,6 +25,11 @@ pub enum Printed {
     Needs(usize),
 }
 
+// The longest answers and the longest report that a log can have: those of one station and 3,853 answered days.
+pub const LONGEST_ANSWERS: usize = 34_682;
+
+pub const LONGEST_REPORT: usize = 80_929;
+
 // A refused log's line.
 fn print_refused(number: u8, value: usize, text: &mut [u8]) -> Printed
     ensures { λ r. ⌜ Prints (refusedLine number value) (now (text .entry)) r (now (text .exit)) ⌝ }
@@ -65,8 +70,12 @@ pub fn write_report(log: &[u8], answers: &mut [u8], text: &mut [u8]) -> Printed
     }
 }
 
-// Reads a log and writes its report whole: both buffers are long enough for every log.
-pub fn whole_report(log: &[u8], answers: &mut [u8; 34_682], text: &mut [u8; 80_929]) -> usize
+// Reads a log and writes its report whole: both buffers are long enough for every log, so that none comes to `Needs`.
+pub fn whole_report(
+    log: &[u8],
+    answers: &mut [u8; LONGEST_ANSWERS],
+    text: &mut [u8; LONGEST_REPORT],
+) -> usize
     ensures { λ r. ⌜ AtFront (now (text .entry)) (wholeReport (now (log .entry))) (now (text .exit)) r × (r ≤ length (now (text .entry))) ⌝ }
     ensures { λ _. ⌜ now (answers .exit) ≡ bufferAfter (now (log .entry)) (now (answers .entry)) ⌝ }
 {

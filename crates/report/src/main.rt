@@ -6,8 +6,8 @@ use libc::STDOUT_FILENO;
 fn main() {
     let mut log = [0u8; 65_537];
     let n = io::read_full(STDIN_FILENO, &mut log);
-    let mut answers = [0u8; 34_682];
-    let mut text = [0u8; 80_929];
+    let mut answers = [0u8; lines::LONGEST_ANSWERS];
+    let mut text = [0u8; lines::LONGEST_REPORT];
     let size = lines::whole_report(&log[..n], &mut answers, &mut text);
     io::write_all(STDOUT_FILENO, &text[..size]);
 }
