@@ -1,4 +1,5 @@
-// The report: a station log on standard input, its report on standard output, and nothing else.
+// The report: a station log on standard input, its report on standard output; where that takes no more, a line on standard error.
+use libc::STDERR_FILENO;
 use libc::STDIN_FILENO;
 use libc::STDOUT_FILENO;
 
@@ -9,5 +10,7 @@ fn main() {
     let mut answers = [0u8; lines::LONGEST_ANSWERS];
     let mut text = [0u8; lines::LONGEST_REPORT];
     let size = lines::whole_report(&log[..n], &mut answers, &mut text);
-    io::write_all(STDOUT_FILENO, &text[..size]);
+    if !io::write_all(STDOUT_FILENO, &text[..size]) {
+        io::write_all(STDERR_FILENO, b"report: standard output takes no more\n");
+    }
 }
