@@ -2,7 +2,7 @@
 -- is `figure-near`; `figure-rounded-at`, from which it follows, has the value's size as well. Assumes nothing.
 use mathlib.Core.Path.{_≡_, refl}
 use mathlib.Core.Bool.{Bool, true, false, cond}
-use mathlib.Core.List.{List, map}
+use mathlib.Core.List.{List}
 use Prim.Native.Nat.{ℕ, _*_}
 use lib.IntN.{ℤ, pos, negsuc, natAbs, _*ℤ_}
 use lib.ListN.{length}
@@ -10,20 +10,17 @@ use lib.Signed.{leZ, _<ℤ_}
 use Rattle.numbers.specs.Ranges.{InRange}
 use Rattle.numbers.specs.Ratios.{_over_}
 use Rattle.numbers.specs.Fractions.{ℚ, fromℤ, _/ℚ_, _*ℚ_, _≤ℚ_}
-use Rattle.numbers.specs.Rounding.{RootOf}
 use Rattle.numbers.proofs.Order.{<ℚ-ratio, <ℚ-≤ℚ-trans}
 use Rattle.numbers.proofs.Rounded.{Rounded, rounded-abs, of-whole, at-least}
 use Rattle.numbers.proofs.RoundedQuotient.{divisor-above}
 use Rattle.numbers.proofs.Reflection.{arg, lit, _+ᵐ_, _-ᵐ_, _*ᵐ_, none, _and_, meaning-in}
-use Rattle.tables.specs.Series.{HalfUnit}
-use Rattle.tables.specs.Tables.{billionth, tenthPascal}
 use Rattle.sheet.specs.Quantities as quantities
 use Rattle.sheet.specs.StepSheet as sheet
 use Rattle.sheet.specs.declared.Readings.{Readings}
 use Rattle.sheet.specs.declared.Entries.{Entries}
 use Rattle.equation.specs.Equation.{value}
 use Rattle.equation.specs.Equation as equation
-use Rattle.equation.specs.Nearness.{tenths, Constants, ConstantsInRange, Accepted, clearDay, figureOf, inputsOf, bound, FigureNear}
+use Rattle.equation.specs.Nearness.{Constants, ConstantsInRange, Accepted, clearDay, figureOf, bound, OfEveryValue, FigureNear}
 use Rattle.equation.proofs.Units.{billionths}
 use Rattle.equation.proofs.Ends.{Between, IsTemperature, from-ends, minus-ends, temperature-ends}
 use Rattle.equation.proofs.TemperatureBound.{e-rounded, e-low}
@@ -106,15 +103,8 @@ module _ (r : Readings) (t : Entries) (fs : List ℤ) (c : Constants) (accepted 
   unfolding sheet.figure
   figure-is = figure-whole _ (sheet.M (r .mean)) (latent-in (accepted .readings .mean))
 
-  -- for what `FigureNear` takes, the size of the value as well as the figure's distance from it
-  pub figure-rounded-at : (α a1 aw bw P x : ℚ) →
-      HalfUnit billionth (natAbs (t .albedo)) α →
-      HalfUnit billionth (natAbs (t .a1)) a1 →
-      HalfUnit billionth (natAbs (t .aw)) aw →
-      HalfUnit billionth (natAbs (t .bw)) bw →
-      HalfUnit tenthPascal (natAbs (t .p)) P →
-      RootOf (1 /ℚ 100000000) (equation.e (tenths (r .dewpoint))) x →
-      Rounded (pos (figureOf r t fs c)) (1 over 10000) (value (inputsOf r (map tenths fs) c α a1 aw bw P x)) (8 over 1) bound
+  -- the size of the value as well as the figure's distance from it
+  pub figure-rounded-at : OfEveryValue r t fs c (λ v. Rounded (pos (figureOf r t fs c)) (1 over 10000) v (8 over 1) bound)
   unfolding value
   figure-rounded-at α a1 aw bw P x hα ha1 haw hbw hP hx =
       let dewpoint = temperature-ends (accepted .readings .dewpoint) in

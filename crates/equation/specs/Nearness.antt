@@ -98,10 +98,10 @@ inputsOf r Fs c α a1 aw bw P x =
 abbrev pub bound : Ratio
 bound = 515 over 10000000
 
--- The figure is within the bound of the value: for all fractions within half a unit of the entries, ends included and all at once, and every x between two
--- neighbouring multiples of 10⁻⁸ whose squares have the equation's own ea between them.
-unfoldable pub FigureNear : Readings → Entries → List ℤ → Constants → Type 0
-FigureNear r t fs c =
+-- What holds of every value that the equation can have: for all fractions within half a unit of the entries, ends included and all at once, and every x
+-- between two neighbouring multiples of 10⁻⁸ whose squares have the equation's own ea between them.
+abbrev pub OfEveryValue : Readings → Entries → List ℤ → Constants → (ℚ → Type 0) → Type 0
+OfEveryValue r t fs c Holds =
     (α a1 aw bw P x : ℚ) →
     HalfUnit billionth (natAbs (t .albedo)) α →
     HalfUnit billionth (natAbs (t .a1)) a1 →
@@ -109,4 +109,8 @@ FigureNear r t fs c =
     HalfUnit billionth (natAbs (t .bw)) bw →
     HalfUnit tenthPascal (natAbs (t .p)) P →
     RootOf (1 /ℚ 100000000) (equation.e (tenths (r .dewpoint))) x →
-    absℚ (fromℤ (pos (figureOf r t fs c)) *ℚ 1 /ℚ 10000 -ℚ value (inputsOf r (map tenths fs) c α a1 aw bw P x)) ≤ℚ fraction bound
+    Holds (value (inputsOf r (map tenths fs) c α a1 aw bw P x))
+
+-- the figure is within the bound of it
+unfoldable pub FigureNear : Readings → Entries → List ℤ → Constants → Type 0
+FigureNear r t fs c = OfEveryValue r t fs c (λ v. absℚ (fromℤ (pos (figureOf r t fs c)) *ℚ 1 /ℚ 10000 -ℚ v) ≤ℚ fraction bound)

@@ -24,7 +24,7 @@ use Rattle.records.specs.Record.{dayAt}
 use Rattle.records.proofs.Choice.{by-cond}
 use Rattle.log.specs.Answers.{verdictOf, bytesOf}
 use Rattle.log.specs.History.{goodDate, earlierMeans}
-use Rattle.log.specs.Log.{Entry, station, day, answersTo, answersOf, readingOf, entriesOf, outcomeOf, settled}
+use Rattle.log.specs.Log.{Entry, station, day, longest, answersTo, answersOf, readingOf, entriesOf, outcomeOf, settled}
 use Rattle.log.specs.declared.Outcome.{Outcome}
 use Rattle.log.specs.declared.Outcome.the-variants as outcome
 use Rattle.log.proofs.Calendar.{date-tells}
@@ -104,7 +104,7 @@ module _ (s : List ℕ) (bytes : AreBytes s) where
   abbrev Short : Outcome → Type 0
   Short o = length (textOf o (answersTo s)) ≤ 80929
 
-  text-most : length s ≤ 65536 → length (header ++ linesOf (answersTo s)) ≤ 80929
+  text-most : length s ≤ longest → length (header ++ linesOf (answersTo s)) ≤ 80929
   text-most short =
       omega (
         arith,
@@ -117,15 +117,15 @@ module _ (s : List ℕ) (bytes : AreBytes s) where
   refused-short number value small =
       omega (arith, refused-line-most number value (omega (arith, small .0 .1)) (omega (arith, small .1)))
 
-  any-short : length s ≤ 65536 → (o : Outcome) → Small o → Short o
+  any-short : length s ≤ longest → (o : Outcome) → Small o → Short o
   any-short short (outcome.Written n) small = text-most short
   any-short short (outcome.Refused number value) small = refused-short number value small
 
   pub report-most : (size : ℕ) → length (reportOf s size) ≤ 80929
   unfolding reportOf outcomeOf
   report-most size =
-      by-cond (λ o. Small o → Short o) (ltb 65536 (length s)) (λ e. refused-short 5 0)
-      (λ e. any-short (ltb-false 65536 (length s) e) (settled (readingOf s) size)) (outcome-small s size)
+      by-cond (λ o. Small o → Short o) (ltb longest (length s)) (λ e. refused-short 5 0)
+      (λ e. any-short (ltb-false longest (length s) e) (settled (readingOf s) size)) (outcome-small s size)
 
 pub long-enough : LongEnough 34682 80929
 unfolding LongEnough wholeReport

@@ -17,21 +17,26 @@ use Rattle.lines.specs.declared.Printed.{Printed}
 use Rattle.lines.specs.declared.Printed.the-variants as printed
 use Rattle.lines.proofs.Written.{then}
 
+-- what is told, and what is left of the buffer, by whether the buffer is too short
+module _ (text before : List ℕ) where
+  abbrev toldBy : Bool → Printed
+  toldBy short = cond short (printed.Needs (length text)) (printed.Written (length text))
+
+  abbrev leftBy : Bool → List ℕ
+  leftBy short = cond short before (text ++ drop (length text) before)
+
 module _ {text before : List ℕ} {n : ℕ} where
   pub too-short : {after : List ℕ} → n ≡ length text → length after < n → after ≡ before → Prints text before (printed.Needs n) after
   too-short e h same =
       let test = lt-ltb (length before) (length text) (omega (arith, e, h, ap length same)) in
-      record {
-        told = ap printed.Needs e ∙ ap (λ (b : Bool). cond b (printed.Needs (length text)) (printed.Written (length text))) (sym test);
-        bytes = same ∙ ap (λ (b : Bool). cond b before (text ++ drop (length text) before)) (sym test);
-      }
+      record { told = ap printed.Needs e ∙ ap (toldBy text before) (sym test); bytes = same ∙ ap (leftBy text before) (sym test) }
 
   pub written-whole : {after : List ℕ} → Written before 0 text after n → Prints text before (printed.Written n) after
   written-whole w =
       let test = le-ltb (length before) (length text) (omega (arith, w .room)) in
       record {
-        told = ap printed.Written (omega (arith, w .behind)) ∙ ap (λ (b : Bool). cond b (printed.Needs (length text)) (printed.Written (length text))) (sym test);
-        bytes = w .bytes ∙ laid-front before text ∙ ap (λ (b : Bool). cond b before (text ++ drop (length text) before)) (sym test);
+        told = ap printed.Written (omega (arith, w .behind)) ∙ ap (toldBy text before) (sym test);
+        bytes = w .bytes ∙ laid-front before text ∙ ap (leftBy text before) (sym test);
       }
 
 -- ---- the number that is returned
@@ -50,14 +55,14 @@ printed-size {text} {before} p =
 module _ {text before after : List ℕ} {n : ℕ} (fits : length text ≤ length before) where
   pub never-needs : Prints text before (printed.Needs n) after → ⊥
   never-needs p =
-      let is = p .told ∙ ap (λ (b : Bool). cond b (printed.Needs (length text)) (printed.Written (length text))) (le-ltb (length before) (length text) fits) in
+      let is = p .told ∙ ap (toldBy text before) (le-ltb (length before) (length text) fits) in
       let z : _≡_ {A = ℕ} 0 1 = cc in omega arith
 
   pub stands-in-front : Prints text before (printed.Written n) after → AtFront before text after n
   stands-in-front p =
       let test = le-ltb (length before) (length text) fits in
-      let is = p .told ∙ ap (λ (b : Bool). cond b (printed.Needs (length text)) (printed.Written (length text))) test in
-      let bytes = p .bytes ∙ ap (λ (b : Bool). cond b before (text ++ drop (length text) before)) test in
+      let is = p .told ∙ ap (toldBy text before) test in
+      let bytes = p .bytes ∙ ap (leftBy text before) test in
       record {
         size = cc;
         bytes = bytes;

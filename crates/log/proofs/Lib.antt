@@ -4,6 +4,7 @@ pub mod ReadBack
 pub mod Calendar
 pub mod Carried
 pub mod Placed
+pub mod Readings
 pub mod Walked
 pub mod Along
 pub mod Passed

@@ -4,7 +4,7 @@ use denote.Ref.{now}
 use borrow.Author.Needs.{needs}
 use Rattle.log.specs.Log.{answersTo, Read}
 use Rattle.log.specs.declared.Outcome.{Outcome}
-use Rattle.lines.proofs.FromLog.{answers-few, answers-held, answers-text, refused-text}
+use Rattle.lines.proofs.FromLog.{answers-few, answers-held, report-text}
 use Rattle.lines.proofs.write_report.Statement.{statement}
 use Rattle.lines.proofs.write_report.Tie as tie
 
@@ -26,7 +26,7 @@ returns c =
     let call = c .before .before in
     let told = call .before .before .before in
     let log = told .before .before .before .before in
-    (refused-text (read log (told .number .given .1)) (call .print-refused .ensures), (log .read-log .ensures .0 .written, log .read-log .ensures .1))
+    (report-text (read log (told .number .given .1)) (call .print-refused .ensures), (log .read-log .ensures .0 .written, log .read-log .ensures .1))
 
 returns-2 : tie.Need-returns-2
 returns-2 c =
@@ -34,7 +34,7 @@ returns-2 c =
     let told = call .before .before .before .before in
     let log = told .before .before .before .before in
     let h = read log (told .n .given .1) in
-    (answers-text h (call .print-answers .ensures _ (answers-held h)), (log .read-log .ensures .0 .written, log .read-log .ensures .1))
+    (report-text h (call .print-answers .ensures _ (answers-held h)), (log .read-log .ensures .0 .written, log .read-log .ensures .1))
 
 pub write-report-spec : {M : Type 1} → statement M
 write-report-spec =
