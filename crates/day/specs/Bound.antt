@@ -2,7 +2,7 @@
 -- sharper: 5.15/100,000. Assumes nothing.
 use mathlib.Core.List.{List, [], _∷_}
 use mathlib.Core.Path.{_≡_}
-use Prim.Native.Nat.{ℕ}
+use Prim.Native.Nat.{ℕ, _≤_}
 use lib.IntN.{pos}
 use Rattle.numbers.specs.Ranges.{InRange}
 use Rattle.numbers.specs.Fractions.{ℚ, fraction, fromℤ, _/ℚ_, _-ℚ_, _*ℚ_, _≤ℚ_, absℚ}
@@ -11,6 +11,7 @@ use Rattle.tables.specs.Series.{HalfUnit}
 use Rattle.tables.specs.Tables.{billionth, tenthPascal}
 use Rattle.tables.specs.Values.{albedoAt, a1At, awAt, bwAt, pressureAt}
 use Rattle.sheet.specs.Limits as limits
+use Rattle.sheet.specs.Quantities.{largestFigure}
 use Rattle.equation.specs.Equation.{Inputs, value}
 use Rattle.equation.specs.Equation as equation
 use Rattle.equation.specs.Nearness.{tenths, bound}
@@ -21,7 +22,7 @@ use Rattle.day.specs.declared.Mean.{Mean}
 use Rattle.day.specs.declared.Mean.the-variants.{Present, Absent}
 use Rattle.day.specs.declared.Earlier.{Earlier}
 use Rattle.day.specs.declared.Verdict.{Verdict}
-use Rattle.day.specs.declared.Verdict.the-variants.{Figure}
+use Rattle.day.specs.declared.Verdict.the-variants.{Figure, Refused}
 
 -- "the earlier means present", in °F: of the three calendar days before, those that have one
 abbrev pub ifPresent : Mean → List ℚ → List ℚ
@@ -58,10 +59,10 @@ inputsOf st day earlier α a1 aw bw P x =
       x = x;
     }
 
--- The figure n differs from the equation's value by at most so many inches: for all fractions within half a unit of the entries at `d` and E, ends
--- included and all at once, and every x between two neighbouring multiples of 10⁻⁸ whose squares have the equation's own ea between them.
-unfoldable pub Within : ℚ → Station → Day → Earlier → ℕ → Type 0
-Within inches st day earlier n =
+-- What holds of every value that the equation can have of a day: for all fractions within half a unit of the entries at `d` and E, ends included and
+-- all at once, and every x between two neighbouring multiples of 10⁻⁸ whose squares have the equation's own ea between them.
+abbrev pub OfEveryValue : Station → Day → Earlier → (ℚ → Type 0) → Type 0
+OfEveryValue st day earlier Holds =
     (α a1 aw bw P x : ℚ) →
     HalfUnit billionth (albedoAt (day .d)) α →
     HalfUnit billionth (a1At (day .d)) a1 →
@@ -69,7 +70,11 @@ Within inches st day earlier n =
     HalfUnit billionth (bwAt (day .d)) bw →
     HalfUnit tenthPascal (pressureAt (st .elevation)) P →
     RootOf (1 /ℚ 100000000) (equation.e (tenths (day .dewpoint))) x →
-    absℚ (fromℤ (pos n) *ℚ 1 /ℚ 10000 -ℚ value (inputsOf st day earlier α a1 aw bw P x)) ≤ℚ inches
+    Holds (value (inputsOf st day earlier α a1 aw bw P x))
+
+-- the figure n differs from the equation's value by at most so many inches
+unfoldable pub Within : ℚ → Station → Day → Earlier → ℕ → Type 0
+Within inches st day earlier n = OfEveryValue st day earlier (λ v. absℚ (fromℤ (pos n) *ℚ 1 /ℚ 10000 -ℚ v) ≤ℚ inches)
 
 -- the bound that is demanded: 6/100,000 of an inch
 unfoldable pub WithinBound : Station → Day → Earlier → ℕ → Type 0
@@ -90,6 +95,11 @@ pub record SignedConstants (st : Station) : Type 0 where
 -- what is owed to an answered day: a figure and no refusal, within the bound
 unfoldable pub FigureOwed : Station → Day → Earlier → Verdict → Type 0
 FigureOwed st day earlier verdict = Answered st day earlier → (n : ℕ) × (verdict ≡ Figure n) × WithinBound st day earlier n
+
+-- no figure is above the largest that the sheet's own range has: 150,000 ten-thousandths of an inch
+abbrev pub FigureInRange : Verdict → Type 0
+FigureInRange (Figure n) = n ≤ largestFigure
+FigureInRange (Refused r) = Unit {0}
 
 -- the demand, over any judge of days
 unfoldable pub JudgesWithinBound : (Station → Day → Earlier → Verdict) → Type 0

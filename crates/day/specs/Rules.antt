@@ -1,6 +1,6 @@
 -- The rules of one day: when each refusal holds, in document 01's order and with its numbers. Assumes nothing.
 use mathlib.Core.Bool.{Bool, true, false, not, cond, _||_}
-use mathlib.Core.List.{List, [], _∷_}
+use mathlib.Core.List.{List, [], _∷_, _++_}
 use Prim.Native.Nat.{ℕ}
 use lib.Dec.{ltb}
 use lib.IntN.{ℤ, negsuc}
@@ -32,16 +32,12 @@ anyOf (b ∷ bs) = cond b true (anyOf bs)
 abbrev pub notCapital : ℕ → Bool
 notCapital x = ltb x 65 || ltb 90 x
 
+abbrev pub codeFaults : ℕ → ℕ → ℕ → ℕ → List Bool
+codeFaults first second third fourth = notCapital first ∷ notCapital second ∷ notCapital third ∷ notCapital fourth ∷ []
+
 abbrev pub stationFaults : ℕ → ℕ → ℕ → ℕ → ℕ → ℕ → List Bool
 stationFaults first second third fourth minimum elevation =
-    notCapital first
-    ∷ notCapital second
-    ∷ notCapital third
-    ∷ notCapital fourth
-    ∷ ltb minimum 50
-    ∷ ltb 200 minimum
-    ∷ ltb 3000 elevation
-    ∷ []
+    codeFaults first second third fourth ++ (ltb minimum 50 ∷ ltb 200 minimum ∷ ltb 3000 elevation ∷ [])
 
 abbrev pub badStation : Station → Bool
 badStation st = anyOf (stationFaults (st .code .first) (st .code .second) (st .code .third) (st .code .fourth) (st .minimum) (st .elevation))

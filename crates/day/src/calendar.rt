@@ -2,6 +2,11 @@
 ghost use mathlib.Core.Path.{_≡_};
 ghost use Rattle.day.specs.Calendar.{yearLength, isDate};
 
+// The years that the office takes.
+pub const FIRST_YEAR: u16 = 1950;
+
+pub const LAST_YEAR: u16 = 2099;
+
 // The number of days of a year: 366 where 4 divides it, but of the years that 100 divides only those that 400 divides.
 fn year_length(year: u16) -> u16
     ensures { λ r. ⌜ r ≡ yearLength year ⌝ }
@@ -22,10 +27,10 @@ fn year_length(year: u16) -> u16
 pub fn is_date(year: u16, d: u16) -> bool
     ensures { λ r. ⌜ r ≡ isDate year d ⌝ }
 {
-    if year < 1950 {
+    if year < FIRST_YEAR {
         return false;
     }
-    if 2099 < year {
+    if LAST_YEAR < year {
         return false;
     }
     if d < 1 {

@@ -1,7 +1,7 @@
 // A day judged: what refuses it, or else its figure. `judge` is a day handed in alone, and asks nothing of its caller.
 ghost use mathlib.Core.Path.{_≡_};
 ghost use Rattle.tables.specs.Tables.{DayTables, PressureTable};
-ghost use Rattle.day.specs.Bound.{FigureOwed};
+ghost use Rattle.day.specs.Bound.{FigureOwed, FigureInRange};
 ghost use Rattle.day.specs.Judgement.{Answered, figureOf, judged};
 use crate::Day;
 use crate::Earlier;
@@ -44,6 +44,7 @@ pub fn judge_by(
     requires { ⌜ DayTables (now days) × PressureTable (now pressures) ⌝ }
     ensures { λ r. ⌜ r ≡ judged station day earlier ⌝ }
     ensures { λ r. ⌜ FigureOwed station day earlier r ⌝ }
+    ensures { λ r. ⌜ FigureInRange r ⌝ }
 {
     match standing(pressures, station, day, earlier) {
         Standing::Refused(why) => Verdict::Refused(why),
@@ -55,6 +56,7 @@ pub fn judge_by(
 pub fn judge(station: Station, day: Day, earlier: Earlier) -> Verdict
     ensures { λ r. ⌜ r ≡ judged station day earlier ⌝ }
     ensures { λ r. ⌜ FigureOwed station day earlier r ⌝ }
+    ensures { λ r. ⌜ FigureInRange r ⌝ }
 {
     let days = tables::day_tables();
     let pressures = tables::pressures();

@@ -10,7 +10,8 @@ use crate::readings::Wind;
 // The mark of a missing reading: no i16 is lower.
 pub const MISSING: i16 = -32_768;
 
-fn not_capital(x: u8) -> bool
+// Whether a letter of a code is no capital.
+pub fn not_capital(x: u8) -> bool
     ensures { λ r. ⌜ r ≡ notCapital x ⌝ }
 {
     x < 65 || 90 < x

@@ -1,5 +1,6 @@
 -- The range of each quantity of the step sheet, in the sheet's unit: between these the code is proved not to overflow. Those of Limits.antt are
 -- document 01's; the others are wide enough for what the readings can give, and no wider than the arithmetic needs. Assumes nothing.
+use Prim.Native.Nat.{ℕ}
 use Rattle.numbers.specs.Ranges.{Range, from_to_, minus_to_}
 pub use Rattle.sheet.specs.Limits.{temperature, radiation, wind, clearMinimum, dayOfYear, signedWord}
 
@@ -97,5 +98,8 @@ drying = minus 5_000_000_000 to 5_000_000_000
 abbrev pub amount : Range
 amount = minus 8_000_000_000 to 8_000_000_000
 
+abbrev pub largestFigure : ℕ
+largestFigure = 150_000
+
 abbrev pub figure : Range
-figure = from 0 to 150_000
+figure = from 0 to largestFigure

@@ -49,7 +49,7 @@ judged-said c r says =
       two = mean-is (x .has-two) (x .two) (fits .two) (two .mean-of2 .ensures) i;
       three = mean-is (x .has-three) (x .three) (fits .three) (three .mean-of3 .ensures) i;
     })
-    _ r (c .judge .ensures .0) (c .judge .ensures .1) says
+    _ r (c .judge .ensures .0) (c .judge .ensures .1 .0) says
 
 returns : tie.Need-returns
 returns c =

@@ -1,15 +1,16 @@
--- `day::judge::judge_by` meets its contract: what refuses the day, or else its figure, which is within the bound. Assumes nothing.
+-- `day::judge::judge_by` meets its contract: what refuses the day, or else its figure, which is within the bound and in its range. Assumes nothing.
 use mathlib.Core.Path.{_≡_, sym, _∙_, ap, subst}
 use native.Mathlib.Omega.{arith}
 use borrow.Author.Needs.{needs}
 use Rattle.day.specs.Judgement.{figureOf, verdictWith, judged}
-use Rattle.day.specs.Bound.{SignedConstants, FigureOwed, JudgesWithinBound}
+use Rattle.day.specs.Bound.{SignedConstants, FigureOwed, FigureInRange, JudgesWithinBound}
 use Rattle.day.specs.declared.Standing.{Standing}
 use Rattle.day.specs.declared.Verdict.{Verdict}
 use Rattle.day.specs.declared.Verdict.the-variants.{Figure}
 use Rattle.day.proofs.Tests.{in-word}
 use Rattle.day.proofs.Standings.{stands-answered}
 use Rattle.day.proofs.DayBound.{judged-within-bound}
+use Rattle.day.proofs.FigureLimit.{figure-in-range}
 use Rattle.day.proofs.judge.judge_by.Statement.{statement}
 use Rattle.day.proofs.judge.judge_by.Tie as tie
 
@@ -23,12 +24,18 @@ constants c =
       c5 = in-word (c .args .station .c5) (record { sfits = omega arith });
     }
 
--- what is judged has the bound
-both-halves : (c : tie.Start) {v : Verdict} → v ≡ judged (c .args .station) (c .args .day) (c .args .earlier) →
-    (v ≡ judged (c .args .station) (c .args .day) (c .args .earlier)) × FigureOwed (c .args .station) (c .args .day) (c .args .earlier) v
+-- what is judged has the bound, and no figure is above the largest
+all-owed : (c : tie.Start) {v : Verdict} → v ≡ judged (c .args .station) (c .args .day) (c .args .earlier) →
+    (v ≡ judged (c .args .station) (c .args .day) (c .args .earlier))
+    × (FigureOwed (c .args .station) (c .args .day) (c .args .earlier) v × FigureInRange v)
 unfolding JudgesWithinBound
-both-halves c e =
-    (e, subst (FigureOwed (c .args .station) (c .args .day) (c .args .earlier)) (sym e) (judged-within-bound (c .args .station) (c .args .day) (c .args .earlier) (constants c)))
+all-owed c {v} e = (
+  e,
+  (
+    subst (FigureOwed (c .args .station) (c .args .day) (c .args .earlier)) (sym e) (judged-within-bound (c .args .station) (c .args .day) (c .args .earlier) (constants c)),
+    figure-in-range (c .args .station) (c .args .day) (c .args .earlier) (constants c) v (sym e),
+  ),
+)
 
 figure-requires : tie.Need-figure-requires
 figure-requires c κs =
@@ -42,7 +49,7 @@ returns c =
     let why = c .before in
     let stood = why .before .before in
     let s = stood .before in
-    both-halves s
+    all-owed s
     (ap (λ (x : Standing). verdictWith x (figureOf (s .args .station) (s .args .day) (s .args .earlier))) (sym (why .why .given .1) ∙ stood .standing .ensures))
 
 returns-2 : tie.Need-returns-2
@@ -51,7 +58,7 @@ returns-2 c =
     let told = c .before in
     let stood = told .before .before in
     let s = stood .before in
-    both-halves s
+    all-owed s
     (ap Figure (c .figure .ensures)
     ∙ ap (λ (x : Standing). verdictWith x (figureOf (s .args .station) (s .args .day) (s .args .earlier))) (sym (told .enum-told .given .1) ∙ stood .standing .ensures))
 
