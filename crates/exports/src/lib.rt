@@ -5,7 +5,7 @@ ghost use lib.ListN.{length};
 ghost use Rattle.day.specs.Judgement.{judged};
 ghost use Rattle.log.specs.Demand.{FiguresOwed};
 ghost use Rattle.log.specs.Log.{outcomeOf, bufferAfter};
-ghost use Rattle.lines.specs.Report.{reportOf, printedIn, textOver};
+ghost use Rattle.text.specs.Report.{reportOf, printedIn, textOver};
 ghost use Rattle.exports.specs.HandedIn.{stationOf, dayOf, meanOf, threeBefore};
 ghost use Rattle.exports.specs.Told.{said, saidBy, verdictSaid, outcomeSaid, printedSaid, FigureSaid};
 use day::Code;
@@ -15,8 +15,8 @@ use day::Mean;
 use day::Station;
 use day::Verdict;
 use day::judge::judge;
-use lines::Printed;
 use log::Outcome;
+use text::Printed;
 
 // A refusal's number, 0 for none, in the high half, and a value in the low half.
 fn packed(number: u32, value: u32) -> u64
@@ -127,7 +127,7 @@ pub extern "C" fn fuortwem_report(log: &[u8], answers: &mut [u8], text: &mut [u8
     ensures { λ _. ⌜ now (answers .exit) ≡ bufferAfter (now (log .entry)) (now (answers .entry)) ⌝ }
     ensures { λ _. ⌜ FiguresOwed (now (log .entry)) (now (answers .entry)) (now (answers .exit)) ⌝ }
 {
-    match lines::write_report(log, answers, text) {
+    match text::write_report(log, answers, text) {
         Printed::Written(n) => packed(0, n as u32),
         Printed::Needs(n) => packed(12, n as u32),
     }

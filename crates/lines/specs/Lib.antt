@@ -1,5 +1,3 @@
--- The definitions that the contracts of the report cite.
+-- The definitions that the contracts of the lines cite.
 pub mod Text
-pub mod Report
 pub mod Written
-pub mod Walk

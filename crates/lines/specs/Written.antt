@@ -3,7 +3,7 @@ use mathlib.Core.Path.{_≡_}
 use mathlib.Core.List.{List, _++_}
 use Prim.Native.Nat.{ℕ, _+_, _≤_}
 use lib.ListN.{length, drop}
-use Rattle.log.specs.Overwriting.{laidOver}
+use Rattle.answers.specs.Overwriting.{laidOver}
 
 -- the text fits from the index `at` on, the bytes after are those before with the text laid over them there, and `next` is the index behind it
 pub record Written (before : List ℕ) (at : ℕ) (text after : List ℕ) (next : ℕ) : Type 0 where

@@ -11,9 +11,9 @@ use Rattle.day.specs.declared.Day.{Day}
 use Rattle.day.specs.declared.Earlier.{Earlier}
 use Rattle.day.specs.declared.Station.{Station}
 use Rattle.day.specs.declared.Verdict.{Verdict}
-use Rattle.log.specs.Answers.{dayAnswer, verdictOf, answerBytes, bytesOf}
+use Rattle.answers.specs.Answers.{dayAnswer, answerBytes, bytesOf}
 use Rattle.log.specs.Days.{DayAt, verdictAt}
-use Rattle.log.specs.History.{afterLast, goodDate}
+use Rattle.log.specs.History.{afterLast, goodDate, verdictOf}
 use Rattle.log.specs.Log.{day, answersTo, answersOf, Reading, entriesOf, outcomeOf, leaves, bufferAfter}
 use Rattle.log.specs.declared.Outcome.{Outcome}
 use Rattle.log.specs.declared.Outcome.the-variants.{Written}

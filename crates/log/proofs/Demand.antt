@@ -13,7 +13,7 @@ use Rattle.day.specs.declared.Station.{Station}
 use Rattle.day.specs.declared.Verdict.{Verdict}
 use Rattle.day.specs.declared.Verdict.the-variants.{Figure}
 use Rattle.day.proofs.DayBound.{judged-within-bound}
-use Rattle.log.specs.Answers.{dayAnswer, answerBytes}
+use Rattle.answers.specs.Answers.{dayAnswer, answerBytes}
 use Rattle.log.specs.Demand.{AnsweredLog, AnsweredDay, FigureAt, FiguresOwed, EveryFigureWithinBound}
 use Rattle.log.specs.Log.{bufferAfter, Read}
 use Rattle.log.specs.declared.Outcome.{Outcome}

@@ -1,6 +1,4 @@
 -- The lemmas that belong to no one function.
-pub mod Overwriting
-pub mod ReadBack
 pub mod Calendar
 pub mod Carried
 pub mod Placed

@@ -13,13 +13,13 @@ use Rattle.day.specs.declared.Mean.the-variants.{Present, Absent}
 use Rattle.day.specs.declared.Refusal.the-variants.{BadDate, Missing}
 use Rattle.day.specs.declared.Verdict.the-variants.{Figure, Refused}
 use Rattle.day.proofs.Examples.{days}
-use Rattle.log.specs.Answers.{dayAnswer, verdictOf, answerBytes, bytesOf}
+use Rattle.answers.specs.Answers.{dayAnswer, answerBytes, bytesOf}
 use Rattle.records.specs.Bytes.{wordAt, signedOf, signedAt}
 use Rattle.log.specs.Days.{DayAt}
 use Rattle.log.specs.Demand.{AnsweredDay}
-use Rattle.log.specs.History.{daysBefore, goodDate, counted, earlierMeans}
+use Rattle.log.specs.History.{daysBefore, goodDate, counted, earlierMeans, verdictOf}
 use Rattle.log.specs.Log.{answersTo, readFrom, readingOf, entriesOf, outcomeOf, bufferAfter}
-use Rattle.log.specs.declared.Answer.the-variants as answer
+use Rattle.answers.specs.declared.Answer.the-variants as answer
 use Rattle.records.specs.Record.{stationAt, dayAt, recordAt}
 use Rattle.log.proofs.Sample.{sample, station, third}
 

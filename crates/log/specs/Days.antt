@@ -11,7 +11,7 @@ use Rattle.day.specs.declared.Refusal.the-variants.{BadDate}
 use Rattle.day.specs.declared.Station.{Station}
 use Rattle.day.specs.declared.Verdict.{Verdict}
 use Rattle.day.specs.declared.Verdict.the-variants.{Refused}
-use Rattle.log.specs.Answers.{bytesOf}
+use Rattle.answers.specs.Answers.{bytesOf}
 use Rattle.log.specs.History.{goodDate, earlierMeans}
 use Rattle.log.specs.Log.{Entry, day, accepted, readingOf, answersOf}
 

@@ -14,7 +14,7 @@ use Rattle.day.specs.declared.Earlier.{Earlier}
 use Rattle.day.specs.declared.Refusal.{Refusal}
 use Rattle.day.specs.declared.Station.{Station}
 use Rattle.day.specs.declared.Verdict.{Verdict}
-use Rattle.log.specs.Answers.{dated}
+use Rattle.answers.specs.Answers.{dated}
 use Rattle.log.specs.Days.{DayAt}
 use Rattle.log.specs.Log.{outcomeOf}
 use Rattle.log.specs.declared.Outcome.the-variants.{Written}

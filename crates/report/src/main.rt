@@ -7,9 +7,9 @@ use libc::STDOUT_FILENO;
 fn main() {
     let mut log = [0u8; 65_537];
     let n = io::read_full(STDIN_FILENO, &mut log);
-    let mut answers = [0u8; lines::LONGEST_ANSWERS];
-    let mut text = [0u8; lines::LONGEST_REPORT];
-    let size = lines::whole_report(&log[..n], &mut answers, &mut text);
+    let mut answers = [0u8; text::LONGEST_ANSWERS];
+    let mut text = [0u8; text::LONGEST_REPORT];
+    let size = text::whole_report(&log[..n], &mut answers, &mut text);
     if !io::write_all(STDOUT_FILENO, &text[..size]) {
         io::write_all(STDERR_FILENO, b"report: standard output takes no more\n");
     }

@@ -5,10 +5,10 @@ use native.Mathlib.Omega.{arith}
 use lib.ListN.{length}
 use denote.Ref.{now}
 use borrow.Author.Needs.{needs}
-use Rattle.lines.specs.Report.{AreBytes}
-use Rattle.lines.specs.declared.Printed.{Printed}
-use Rattle.lines.proofs.LongEnough.{report-most}
-use Rattle.lines.proofs.Prints.{sizeIn, printed-size}
+use Rattle.text.specs.Report.{AreBytes}
+use Rattle.text.specs.declared.Printed.{Printed}
+use Rattle.text.proofs.LongEnough.{report-most}
+use Rattle.text.proofs.Prints.{sizeIn, printed-size}
 use Rattle.exports.specs.Told.{printedSaid}
 use Rattle.exports.proofs.fuortwem_report.Statement.{statement}
 use Rattle.exports.proofs.fuortwem_report.Tie as tie

@@ -4,7 +4,7 @@ use native.Mathlib.Omega.{arith}
 use lib.ListN.{length-set}
 use denote.Ref.{now}
 use borrow.Author.Needs.{needs}
-use Rattle.log.proofs.Overwriting.{plus1, plus2, plus3}
+use Rattle.answers.proofs.Overwriting.{plus1, plus2, plus3}
 use Rattle.lines.proofs.Written.{stored}
 use Rattle.lines.proofs.fields.put_four.Statement.{statement}
 use Rattle.lines.proofs.fields.put_four.Tie as tie

@@ -1,0 +1,12 @@
+// The answers to a log as values, and their bytes: written to a lent buffer, and read back from it.
+use day::Code;
+use day::Verdict;
+
+pub mod read_back;
+pub mod writing;
+
+// An answer of a log: a station's code, or a day's year, `d` and verdict.
+pub enum Answer {
+    Station(Code),
+    Day(u16, u16, Verdict),
+}

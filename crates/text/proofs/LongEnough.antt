@@ -1,0 +1,137 @@
+-- How long a report can be: no day's line is longer than 21 bytes (`line-most`), and no report than 80,929 (`report-most`), that of one station and
+-- 3,853 days. The theorem is `long-enough`. Assumes nothing.
+use mathlib.Core.Path.{_≡_, refl, ap}
+use mathlib.Core.Bool.{true, not}
+use mathlib.Core.List.{List, [], _∷_, _++_}
+use Prim.Native.Nat.{ℕ, _+_, _*_, _≤_, _<_}
+use native.Mathlib.Omega.{arith}
+use lib.Dec.{ltb}
+use lib.ListN.{length, length-append}
+use borrow.Author.Tests.{ltb-false}
+use Rattle.day.specs.Calendar.{isDate}
+use Rattle.day.specs.Judgement.{holds, judged}
+use Rattle.day.specs.declared.Code.{Code}
+use Rattle.day.specs.declared.Day.{Day}
+use Rattle.day.specs.declared.Refusal.{Refusal}
+use Rattle.day.specs.declared.Refusal.the-variants.{BadDate}
+use Rattle.day.specs.declared.Station.{Station}
+use Rattle.day.specs.declared.Verdict.{Verdict}
+use Rattle.day.specs.declared.Verdict.the-variants.{Figure, Refused}
+use Rattle.day.proofs.FigureLimit.{figure-most}
+use Rattle.day.proofs.Passed.{day-high}
+use Rattle.records.specs.Bytes.{wordAt}
+use Rattle.records.specs.Record.{dayAt}
+use Rattle.records.proofs.Choice.{by-cond}
+use Rattle.answers.specs.Answers.{bytesOf}
+use Rattle.log.specs.History.{goodDate, earlierMeans, verdictOf}
+use Rattle.log.specs.Log.{Entry, station, day, longest, answersTo, answersOf, readingOf, entriesOf, outcomeOf, settled}
+use Rattle.log.specs.declared.Outcome.{Outcome}
+use Rattle.log.specs.declared.Outcome.the-variants as outcome
+use Rattle.log.proofs.Calendar.{date-tells}
+use Rattle.log.proofs.Days.{good-date}
+use Rattle.log.proofs.Longest.{daysOf, answers-most, days-most}
+use Rattle.log.proofs.OutcomeSize.{Small, outcome-small, outcome-alike}
+use Rattle.log.proofs.Stations.{Sound, SoundEntries, sound-reading, station-constants}
+use Rattle.text.specs.Report.{linesFrom, linesOf, textOf, reportOf, wholeReport, AreBytes, LongEnough}
+use Rattle.lines.specs.Text.{header, verdictText, dayLine}
+use Rattle.text.specs.declared.walk.Open.{Open}
+use Rattle.text.specs.declared.walk.Open.the-variants.{NoBlock, In}
+use Rattle.lines.proofs.Digits.{padded-most, inches-most}
+use Rattle.lines.proofs.Lengths.{refusal-most, day-line-size, refused-line-most}
+
+module _ (s : List ℕ) (bytes : AreBytes s) where
+  -- ---- a day's line
+
+  word-small : (i : ℕ) → wordAt s i < 65536
+  unfolding wordAt
+  word-small i = omega (arith, bytes i, bytes (i + 1))
+
+  dated-small : {y : Day} → ((i : ℕ) × (y ≡ dayAt s i)) → (y .year < 65536) × (y .d < 65536)
+  unfolding dayAt
+  dated-small f = rw (f .1) (word-small (f .0), word-small (f .0 + 2))
+
+  module _ (code : Code) (x : Station) (h : List Day) (y : Day) (sound : Sound s x) (found : (i : ℕ) × (y ≡ dayAt s i)) where
+    -- a refusal has two digits at most, and each number of the date five
+    refused-most : (r : Refusal) → length (dayLine code (y .year) (y .d) (Refused r)) ≤ 21
+    refused-most r =
+        omega (
+          arith,
+          day-line-size code (y .year) (y .d) (Refused r),
+          padded-most 4 4 (y .year) (omega arith) (omega (arith, dated-small found .0)),
+          padded-most 4 3 (y .d) (omega arith) (omega (arith, dated-small found .1)),
+          refusal-most r,
+        )
+
+    -- a figure has six, and the date is one of the calendar
+    figure-line-most : isDate (y .year) (y .d) ≡ true → (n : ℕ) → judged x y (earlierMeans h y) ≡ Figure n
+        → length (dayLine code (y .year) (y .d) (Figure n)) ≤ 21
+    unfolding holds verdictText
+    figure-line-most date n told =
+        omega (
+          arith,
+          day-line-size code (y .year) (y .d) (Figure n),
+          padded-most 3 4 (y .year) (omega arith) (omega (arith, date-tells (y .year) (y .d) date .last-year)),
+          padded-most 2 3 (y .d) (omega arith) (omega (arith, day-high x y (earlierMeans h y) (ap not date))),
+          inches-most 0 n (omega (arith, figure-most x y (earlierMeans h y) (station-constants sound) told)),
+        )
+
+    abbrev Fits : Verdict → Type 0
+    Fits v = length (dayLine code (y .year) (y .d) v) ≤ 21
+
+    line-most : Fits (verdictOf x h y)
+    unfolding verdictOf
+    line-most =
+        by-cond Fits (goodDate h y) (λ good. by (judged x y (earlierMeans h y)) refl (good-date h y good)) (λ bad. refused-most BadDate)
+      where
+        by : (v : Verdict) → judged x y (earlierMeans h y) ≡ v → isDate (y .year) (y .d) ≡ true → Fits v
+        by (Figure n) e date = figure-line-most date n e
+        by (Refused r) e date = refused-most r
+
+  -- ---- the report
+
+  lines-most : (es : List Entry) → SoundEntries s es → (block : Open) → length (linesFrom block (answersOf es)) ≤ 21 * daysOf es
+  lines-most [] f block = omega arith
+  lines-most (station x ∷ es) f block = lines-most es (f .1) (In (x .code))
+  lines-most (day x h y ∷ es) f NoBlock = omega (arith, lines-most es (f .1) NoBlock)
+  lines-most (day x h y ∷ es) f (In code) =
+      omega (
+        arith,
+        lines-most es (f .1) (In code),
+        line-most code x h y (f .0 .0) (f .0 .1),
+        length-append (dayLine code (y .year) (y .d) (verdictOf x h y)) (linesFrom (In code) (answersOf es)),
+      )
+
+  abbrev Short : Outcome → Type 0
+  Short o = length (textOf o (answersTo s)) ≤ 80929
+
+  text-most : length s ≤ longest → length (header ++ linesOf (answersTo s)) ≤ 80929
+  text-most short =
+      omega (
+        arith,
+        length-append header (linesOf (answersTo s)),
+        lines-most (entriesOf (readingOf s)) (sound-reading s) NoBlock,
+        days-most s short,
+      )
+
+  refused-short : (number value : ℕ) → Small (outcome.Refused number value) → Short (outcome.Refused number value)
+  refused-short number value small =
+      omega (arith, refused-line-most number value (omega (arith, small .0 .1)) (omega (arith, small .1)))
+
+  any-short : length s ≤ longest → (o : Outcome) → Small o → Short o
+  any-short short (outcome.Written n) small = text-most short
+  any-short short (outcome.Refused number value) small = refused-short number value small
+
+  pub report-most : (size : ℕ) → length (reportOf s size) ≤ 80929
+  unfolding reportOf outcomeOf
+  report-most size =
+      by-cond (λ o. Small o → Short o) (ltb longest (length s)) (λ e. refused-short 5 0)
+      (λ e. any-short (ltb-false longest (length s) e) (settled (readingOf s) size)) (outcome-small s size)
+
+pub long-enough : LongEnough 34682 80929
+unfolding LongEnough wholeReport
+long-enough s bytes = (answers-most s, report-most s bytes (length (bytesOf (answersTo s))))
+
+-- with so many bytes for the answers, the report is the whole one
+pub whole : (s : List ℕ) → reportOf s 34682 ≡ wholeReport s
+unfolding wholeReport reportOf
+whole s = ap (λ (o : Outcome). textOf o (answersTo s)) (outcome-alike s 34682 (answers-most s))

@@ -1,0 +1,37 @@
+-- Reports worked out from the log's bytes to the last newline: document 01's, with its four lines; the same log cut off; the same with an answer
+-- buffer that is one byte too short; and that of a log of 0 bytes. Assumes nothing.
+use mathlib.Core.Path.{_≡_, refl}
+use mathlib.Core.List.{List, [], _∷_, _++_}
+use lib.ListN.{take}
+use Rattle.records.specs.Bytes.{wordAt, signedOf, signedAt}
+use Rattle.records.specs.Record.{stationAt, dayAt, recordAt}
+use Rattle.log.specs.Log.{readFrom, readingOf, outcomeOf}
+use Rattle.log.proofs.Sample.{sample}
+use Rattle.log.proofs.WorkedLog.{worked}
+use Rattle.text.specs.Report.{linesOf, reportOf, wholeReport}
+use Rattle.lines.specs.Text.{newline, leading, digits, padded, inches, verdictText, header, dayLine, refusedLine}
+
+-- `STN YEAR DAY ET`, `LIDW 2008 010 R7`, `LIDW 2008 011 R7`, `LIDW 2008 012 0.0000`
+pub report : wholeReport sample ≡
+    83 ∷ 84 ∷ 78 ∷ 32 ∷ 89 ∷ 69 ∷ 65 ∷ 82 ∷ 32 ∷ 68 ∷ 65 ∷ 89 ∷ 32 ∷ 69 ∷ 84 ∷ newline
+    ∷ 76 ∷ 73 ∷ 68 ∷ 87 ∷ 32 ∷ 50 ∷ 48 ∷ 48 ∷ 56 ∷ 32 ∷ 48 ∷ 49 ∷ 48 ∷ 32 ∷ 82 ∷ 55 ∷ newline
+    ∷ 76 ∷ 73 ∷ 68 ∷ 87 ∷ 32 ∷ 50 ∷ 48 ∷ 48 ∷ 56 ∷ 32 ∷ 48 ∷ 49 ∷ 49 ∷ 32 ∷ 82 ∷ 55 ∷ newline
+    ∷ 76 ∷ 73 ∷ 68 ∷ 87 ∷ 32 ∷ 50 ∷ 48 ∷ 48 ∷ 56 ∷ 32 ∷ 48 ∷ 49 ∷ 50 ∷ 32 ∷ 48 ∷ 46 ∷ 48 ∷ 48 ∷ 48 ∷ 48 ∷ newline
+    ∷ []
+unfolding wholeReport reportOf outcomeOf readingOf readFrom recordAt stationAt dayAt wordAt signedOf signedAt dayLine padded verdictText inches digits leading
+report = λ i. header ++ linesOf (worked i)
+
+-- cut off within day 12, whose kind byte is at 53: `REFUSED 2 53`
+pub cut-off : wholeReport (take 69 sample) ≡ 82 ∷ 69 ∷ 70 ∷ 85 ∷ 83 ∷ 69 ∷ 68 ∷ 32 ∷ 50 ∷ 32 ∷ 53 ∷ 51 ∷ newline ∷ []
+unfolding wholeReport reportOf outcomeOf readingOf readFrom recordAt stationAt dayAt wordAt signedOf signedAt refusedLine digits leading
+cut-off = refl
+
+-- 31 bytes for 32 of answers: `REFUSED 12 32`
+pub answers-short : reportOf sample 31 ≡ 82 ∷ 69 ∷ 70 ∷ 85 ∷ 83 ∷ 69 ∷ 68 ∷ 32 ∷ 49 ∷ 50 ∷ 32 ∷ 51 ∷ 50 ∷ newline ∷ []
+unfolding reportOf outcomeOf readingOf readFrom recordAt stationAt dayAt wordAt signedOf signedAt refusedLine digits leading
+answers-short = refl
+
+-- "a log of 0 bytes prints the header alone"
+pub empty : wholeReport [] ≡ header
+unfolding wholeReport reportOf outcomeOf readingOf readFrom recordAt
+empty = refl

@@ -1,0 +1,34 @@
+-- `text::walk::put_day` meets its contract. Assumes nothing.
+use Prim.Native.Nat.{_≤_}
+use native.Mathlib.Omega.{arith}
+use lib.ListN.{length}
+use borrow.Author.Needs.{needs}
+use Rattle.lines.specs.Text.{dayLine}
+use Rattle.text.proofs.Laid.{laid-written, laid-counted}
+use Rattle.lines.proofs.Lengths.{day-line-most}
+use Rattle.text.proofs.walk.put_day.Statement.{statement}
+use Rattle.text.proofs.walk.put_day.Tie as tie
+
+short : (s : tie.Start) → let x = s .args in length (dayLine (x .code) (x .year) (x .d) (x .verdict)) ≤ 64
+short s = let x = s .args in day-line-most (x .code) (x .year) (x .d) (x .verdict) (omega arith) (omega arith) (s .good .1 .1 .1 .1 .1 .0)
+
+put-day-line-requires : tie.Need-put-day-line-requires
+put-day-line-requires c κs = c .before .before .before .pre .1 (c .before .if1 .taken)
+
+returns : tie.Need-returns
+returns c =
+    let called = c .before .before in
+    let wrote = called .before .before in
+    let w = called .put-day-line .ensures in
+    (laid-written (wrote .if1 .taken) w, omega (arith, w .behind, short (wrote .before .before)))
+
+add-result : tie.Need-add-result
+add-result c = omega (arith, c .day-line .ensures .size, short (c .before .before .before .before))
+
+returns-2 : tie.Need-returns-2
+returns-2 c =
+    let size = c .day-line .ensures .size in
+    (laid-counted (c .before .before .if1 .left) size, omega (arith, size, short (c .before .before .before .before)))
+
+pub put-day-spec : {M : Type 1} → statement M
+put-day-spec = tie.close (tie.spec put-day-line-requires (λ c. search needs) returns (λ c κs. search needs) add-result returns-2)

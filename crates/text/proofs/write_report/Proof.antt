@@ -1,0 +1,44 @@
+-- `text::write_report` meets its contract. Assumes nothing.
+use mathlib.Core.Path.{_≡_, subst}
+use denote.Ref.{now}
+use borrow.Author.Needs.{needs}
+use Rattle.log.specs.Log.{answersTo, Read}
+use Rattle.log.specs.declared.Outcome.{Outcome}
+use Rattle.text.proofs.FromLog.{answers-few, answers-held, report-text}
+use Rattle.text.proofs.write_report.Statement.{statement}
+use Rattle.text.proofs.write_report.Tie as tie
+
+module _ (c : tie.After-read-log) where
+  abbrev s : tie.Start
+  s = c .before .before .before .before .before
+
+  read : {o : Outcome} → c .read-log .result ≡ o → Read (now (s .args .log)) (now (s .args .answers)) o (c .read-log .last .1 .0)
+  read e = subst (λ (o : Outcome). Read (now (s .args .log)) (now (s .args .answers)) o (c .read-log .last .1 .0)) e (c .read-log .ensures .0)
+
+print-answers-requires : tie.Need-print-answers-requires
+print-answers-requires c κs =
+    let n = c .before .before .before in
+    let h = read (n .before .before .before .before) (n .n .given .1) in
+    (answers-few h, (answersTo _, answers-held h))
+
+returns : tie.Need-returns
+returns c =
+    let call = c .before .before in
+    let told = call .before .before .before in
+    let log = told .before .before .before .before in
+    (report-text (read log (told .number .given .1)) (call .print-refused .ensures), (log .read-log .ensures .0 .written, log .read-log .ensures .1))
+
+returns-2 : tie.Need-returns-2
+returns-2 c =
+    let call = c .before .before in
+    let told = call .before .before .before .before in
+    let log = told .before .before .before .before in
+    let h = read log (told .n .given .1) in
+    (report-text h (call .print-answers .ensures _ (answers-held h)), (log .read-log .ensures .0 .written, log .read-log .ensures .1))
+
+pub write-report-spec : {M : Type 1} → statement M
+write-report-spec =
+    tie.close
+    (tie.spec
+    (λ c κs. search needs) (λ c. search needs) (λ c κs. search needs) (λ c. search needs) print-answers-requires
+    (λ c. search needs) (λ c. search needs) returns (λ c. search needs) (λ c. search needs) returns-2)

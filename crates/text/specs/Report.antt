@@ -1,0 +1,83 @@
+-- The report of a log, from the log's bytes to the last newline, by document 01, "Proved days and edges"; and what is left of a buffer that it is
+-- written to. Assumes nothing.
+use mathlib.Core.Bool.{cond}
+use mathlib.Core.List.{List, [], _∷_, _++_}
+use mathlib.Core.Path.{_≡_}
+use Prim.Native.Nat.{ℕ, _≤_, _<_}
+use lib.Dec.{ltb}
+use lib.ListN.{length, drop, getD}
+use Rattle.answers.specs.Answers.{bytesOf}
+use Rattle.log.specs.Log.{longest, outcomeOf, answersTo}
+use Rattle.answers.specs.declared.Answer.{Answer}
+use Rattle.answers.specs.declared.Answer.the-variants as answer
+use Rattle.log.specs.declared.Outcome.{Outcome}
+use Rattle.log.specs.declared.Outcome.the-variants as outcome
+use Rattle.lines.specs.Text.{header, dayLine, refusedLine}
+use Rattle.text.specs.declared.Printed.{Printed}
+use Rattle.text.specs.declared.Printed.the-variants.{Written, Needs}
+use Rattle.text.specs.declared.walk.Open.{Open}
+use Rattle.text.specs.declared.walk.Open.the-variants.{NoBlock, In}
+
+-- "lines about a whole block follow all its answers": there are none yet
+abbrev pub aboutBlock : Open → List ℕ
+aboutBlock block = []
+
+-- "An answer kind that a request adds prints its fields after the kind in the same way, figures in inches, in answer order."
+-- What an answer prints: a day has its line, with its block's code. "A station prints no line of its own", but where it stands the block before it
+-- has ended. No log answers a day before a station: it is refused with 4 (`station-first` in log/proofs/Longest.antt).
+abbrev pub lineOf : Open → Answer → List ℕ
+lineOf block (answer.Station code) = aboutBlock block
+lineOf NoBlock (answer.Day year d verdict) = []
+lineOf (In code) (answer.Day year d verdict) = dayLine code year d verdict
+
+-- the block that is open after an answer
+abbrev pub openAfter : Open → Answer → Open
+openAfter block (answer.Station code) = In code
+openAfter block (answer.Day year d verdict) = block
+
+-- "in answer order"
+abbrev pub linesFrom : Open → List Answer → List ℕ
+linesFrom block [] = aboutBlock block
+linesFrom block (a ∷ rest) = lineOf block a ++ linesFrom (openAfter block a) rest
+
+abbrev pub linesOf : List Answer → List ℕ
+linesOf answers = linesFrom NoBlock answers
+
+-- "a log of 0 bytes prints the header alone"; a refused log prints its line and nothing else
+abbrev pub textOf : Outcome → List Answer → List ℕ
+textOf (outcome.Written n) answers = header ++ linesOf answers
+textOf (outcome.Refused number value) answers = refusedLine number value
+
+-- the report of a log that is read with an answer buffer of `size` bytes
+unfoldable pub reportOf : List ℕ → ℕ → List ℕ
+reportOf s size = textOf (outcomeOf s size) (answersTo s)
+
+-- the report of a log, with room for its answers: 12 does not hold
+unfoldable pub wholeReport : List ℕ → List ℕ
+wholeReport s = reportOf s (length (bytesOf (answersTo s)))
+
+-- ---- a lent text buffer
+
+-- the length written, or the length needed where the buffer has fewer bytes
+abbrev pub printedIn : ℕ → List ℕ → Printed
+printedIn size text = cond (ltb size (length text)) (Needs (length text)) (Written (length text))
+
+-- the text from the front, later bytes as they were; a buffer that is too short is as it was
+abbrev pub textOver : List ℕ → List ℕ → List ℕ
+textOver before text = cond (ltb (length before) (length text)) before (text ++ drop (length text) before)
+
+-- what a writer of a text owes: the number that it returns, and each byte of the buffer afterwards
+pub record Prints (text before : List ℕ) (returned : Printed) (after : List ℕ) : Type 0 where
+  pub told : returned ≡ printedIn (length before) text
+  pub bytes : after ≡ textOver before text
+
+-- ---- buffers that are long enough
+
+-- every element is below 256
+abbrev pub AreBytes : List ℕ → Type 0
+AreBytes s = (i : ℕ) → getD s i 0 < 256
+
+-- Buffers of so many bytes are long enough for every log: no log of at most 65,536 bytes has longer answers, and no log a longer report.
+unfoldable pub LongEnough : ℕ → ℕ → Type 0
+LongEnough answers text =
+    (s : List ℕ) → AreBytes s → (length s ≤ longest → length (bytesOf (answersTo s)) ≤ answers) × (length (wholeReport s) ≤ text)
