@@ -1,3 +1,4 @@
 -- The lemmas that belong to no one function.
+pub mod Bytes
 pub mod Overwriting
 pub mod ReadBack

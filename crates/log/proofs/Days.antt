@@ -37,20 +37,20 @@ good-date h x e = by (isDate (x .year) (x .d)) e
     by false f = f
 
 module _ {s : List ℕ} {i : ℕ} {x : Station} {y : Day} {earlier : Earlier} {good : Bool} {place : ℕ} (d : DayAt s i x y earlier good place) where
-  verdict-is : verdictOf x (d .history) y ≡ verdictAt x y earlier good
+  verdict-is : verdictOf (d .block .station) (d .block .days) y ≡ verdictAt x y earlier good
   unfolding verdictOf
-  verdict-is = rw (d .means, d .dated)
+  verdict-is = rw (d .stationed, d .means, d .dated)
 
   -- in the buffer that an accepted log leaves, the day's own answer stands at its place
   pub answer-at : (buffer : List ℕ) {n : ℕ} → outcomeOf s (length buffer) ≡ Written n
       → take 9 (drop place (bufferAfter s buffer)) ≡ answerBytes (dayAnswer y (verdictAt x y earlier good))
   unfolding bufferAfter
   answer-at buffer {n} e =
-      let own = answerBytes (dayAnswer y (verdictOf x (d .history) y)) in
+      let own = answerBytes (dayAnswer y (verdictOf (d .block .station) (d .block .days) y)) in
       let front = bytesOf (answersOf (d .before)) in
       let back = bytesOf (answersOf (d .later)) in
       let answers : bytesOf (answersTo s) ≡ front ++ (own ++ back) =
-      ap (λ (r : Reading). bytesOf (answersOf (entriesOf r))) (d .stands) ∙ answers-append (d .before) (day x (d .history) y ∷ d .later) in
+      ap (λ (r : Reading). bytesOf (answersOf (entriesOf r))) (d .stands) ∙ answers-append (d .before) (day (d .block) y ∷ d .later) in
       let whole : bufferAfter s buffer ≡ front ++ (own ++ (back ++ drop n buffer)) =
       ap (λ (o : Outcome). leaves o (bytesOf (answersTo s)) buffer) e
       ∙ ap (λ (l : List ℕ). l ++ drop n buffer) answers
@@ -59,4 +59,4 @@ module _ {s : List ℕ} {i : ℕ} {x : Station} {y : Day} {earlier : Earlier} {g
       ap (λ (l : List ℕ). take 9 (drop place l)) whole ∙ nine-at front own (back ++ drop n buffer) refl (d .behind) ∙ ap (λ (v : Verdict). answerBytes (dayAnswer y v)) verdict-is
 
   pub good-in-calendar : good ≡ true → isDate (y .year) (y .d) ≡ true
-  good-in-calendar g = good-date (d .history) y (sym (d .dated) ∙ g)
+  good-in-calendar g = good-date (d .block .days) y (sym (d .dated) ∙ g)

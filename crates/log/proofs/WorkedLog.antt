@@ -88,9 +88,10 @@ year-end =
     record {
       before = take 2 (entriesOf (readingOf twoBlocks));
       later = drop 3 (entriesOf (readingOf twoBlocks));
-      history = dayAt twoBlocks 20 ∷ [];
+      block = record { station = stationAt twoBlocks 1; days = dayAt twoBlocks 20 ∷ [] };
       stands = refl;
       index = refl;
+      stationed = refl;
       means = refl;
       dated = refl;
       behind = refl;

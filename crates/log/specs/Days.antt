@@ -13,18 +13,19 @@ use Rattle.day.specs.declared.Verdict.{Verdict}
 use Rattle.day.specs.declared.Verdict.the-variants.{Refused}
 use Rattle.answers.specs.Answers.{bytesOf}
 use Rattle.log.specs.History.{goodDate, earlierMeans}
-use Rattle.log.specs.Log.{Entry, day, accepted, readingOf, answersOf}
+use Rattle.log.specs.Log.{BlockRead, Entry, day, accepted, readingOf, answersOf}
 
 -- Record number i of the log s, counted from 0, is the day x of a block of `station`. `earlier` are the means that the block's records before it
 -- give, `good` says whether its date is good, and its answer stands at `place`: after the answers of the records before it.
 pub record DayAt (s : List ℕ) (i : ℕ) (station : Station) (x : Day) (earlier : Earlier) (good : Bool) (place : ℕ) : Type 0 where
   pub before : List Entry
   pub later : List Entry
-  pub history : List Day
-  pub stands : readingOf s ≡ accepted (before ++ (day station history x ∷ later))
+  pub block : BlockRead
+  pub stands : readingOf s ≡ accepted (before ++ (day block x ∷ later))
   pub index : i ≡ length before
-  pub means : earlier ≡ earlierMeans history x
-  pub dated : good ≡ goodDate history x
+  pub stationed : station ≡ block .station
+  pub means : earlier ≡ earlierMeans (block .days) x
+  pub dated : good ≡ goodDate (block .days) x
   pub behind : place ≡ length (bytesOf (answersOf before))
 
 -- the verdict in its answer: 6, or that of the judgement

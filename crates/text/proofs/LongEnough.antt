@@ -92,13 +92,13 @@ module _ (s : List ℕ) (bytes : AreBytes s) where
   lines-most : (es : List Entry) → SoundEntries s es → (block : Open) → length (linesFrom block (answersOf es)) ≤ 21 * daysOf es
   lines-most [] f block = omega arith
   lines-most (station x ∷ es) f block = lines-most es (f .1) (In (x .code))
-  lines-most (day x h y ∷ es) f NoBlock = omega (arith, lines-most es (f .1) NoBlock)
-  lines-most (day x h y ∷ es) f (In code) =
+  lines-most (day b y ∷ es) f NoBlock = omega (arith, lines-most es (f .1) NoBlock)
+  lines-most (day b y ∷ es) f (In code) =
       omega (
         arith,
         lines-most es (f .1) (In code),
-        line-most code x h y (f .0 .0) (f .0 .1),
-        length-append (dayLine code (y .year) (y .d) (verdictOf x h y)) (linesFrom (In code) (answersOf es)),
+        line-most code (b .station) (b .days) y (f .0 .0) (f .0 .1),
+        length-append (dayLine code (y .year) (y .d) (verdictOf (b .station) (b .days) y)) (linesFrom (In code) (answersOf es)),
       )
 
   abbrev Short : Outcome → Type 0
