@@ -1,5 +1,5 @@
 -- What the bytes of an answer say where they stand: its kind, its code or its date, and its value. So the answer is known from them (`is-station`,
--- `is-figure`, `is-refusal`), as a refusal is from its number (`one-number`). Assumes nothing.
+-- `is-crop`, `is-figure`, `is-refusal`), as a refusal is from its number (`one-number`). Assumes nothing.
 use mathlib.Core.Path.{_≡_, refl, sym, ap, _∙_}
 use mathlib.Core.Bool.{cond}
 use mathlib.Core.Logic.{_≢_}
@@ -33,26 +33,38 @@ pub record DayTold (s : List ℕ) (at year d : ℕ) (v : Verdict) : Type 0 where
   pub dated : (wordAt s (at + 1) ≡ year) × (wordAt s (at + 3) ≡ d)
   pub value : wordAt s (at + 5) * 65536 + wordAt s (at + 5 + 2) ≡ valueOf v
 
+pub record CropTold (s : List ℕ) (at : ℕ) (c : Code) (n : ℕ) : Type 0 where
+  pub inside : at + 9 ≤ length s
+  pub kind : getD s at 0 ≡ 7
+  pub code : codeAt s (at + 1) ≡ c
+  pub value : wordAt s (at + 5) * 65536 + wordAt s (at + 5 + 2) ≡ n
+
 module _ {s : List ℕ} {at : ℕ} {a : Answer} (h : StandsAt s at a) where
   -- byte i of the answer
   byte : (j i : ℕ) → j ≡ at + i → getD s j 0 ≡ getD (answerBytes a ++ h .rest) i 0
   byte j i e = ap (λ (j : ℕ). getD s j 0) e ∙ sym (getD-drop at s i 0) ∙ ap (λ (l : List ℕ). getD l i 0) (h .bytes)
+
+  -- its bytes 1 to 4 as letters
+  letters : codeAt s (at + 1)
+      ≡ record {
+        first = getD (answerBytes a ++ h .rest) 1 0;
+        second = getD (answerBytes a ++ h .rest) 2 0;
+        third = getD (answerBytes a ++ h .rest) 3 0;
+        fourth = getD (answerBytes a ++ h .rest) 4 0;
+      }
+  letters =
+      let first = byte (at + 1) 1 refl in
+      let second = byte (at + 1 + 1) 2 (omega arith) in
+      let third = byte (at + 1 + 2) 3 (omega arith) in
+      let fourth = byte (at + 1 + 3) 4 (omega arith) in
+      λ i. record { first = first i; second = second i; third = third i; fourth = fourth i }
 
   left : length s - at ≡ length (answerBytes a) + length (h .rest)
   left = sym (length-drop at s) ∙ ap length (h .bytes) ∙ length-append (answerBytes a) (h .rest)
 
 module _ {s : List ℕ} {at : ℕ} where
   pub station-tells : {c : Code} → StandsAt s at (answer.Station c) → StationTold s at c
-  station-tells h =
-      let first = byte h (at + 1) 1 refl in
-      let second = byte h (at + 1 + 1) 2 (omega arith) in
-      let third = byte h (at + 1 + 2) 3 (omega arith) in
-      let fourth = byte h (at + 1 + 3) 4 (omega arith) in
-      record {
-        inside = omega (arith, left h);
-        kind = byte h at 0 (omega arith);
-        code = λ i. record { first = first i; second = second i; third = third i; fourth = fourth i };
-      }
+  station-tells h = record { inside = omega (arith, left h); kind = byte h at 0 (omega arith); code = letters h }
 
   pub day-tells : {year d : ℕ} {v : Verdict} → StandsAt s at (answer.Day year d v) → DayTold s at year d v
   unfolding wordAt
@@ -64,6 +76,23 @@ module _ {s : List ℕ} {at : ℕ} where
           omega (arith, byte h (at + 1) 1 refl, byte h (at + 1 + 1) 2 (omega arith)),
           omega (arith, byte h (at + 3) 3 refl, byte h (at + 3 + 1) 4 (omega arith)),
         );
+        value =
+            omega (
+              arith,
+              byte h (at + 5) 5 refl,
+              byte h (at + 5 + 1) 6 (omega arith),
+              byte h (at + 5 + 2) 7 (omega arith),
+              byte h (at + 5 + 2 + 1) 8 (omega arith),
+            );
+      }
+
+  pub crop-tells : {c : Code} {n : ℕ} → StandsAt s at (answer.Crop c n) → CropTold s at c n
+  unfolding wordAt
+  crop-tells h =
+      record {
+        inside = omega (arith, left h);
+        kind = byte h at 0 (omega arith);
+        code = letters h;
         value =
             omega (
               arith,
@@ -105,18 +134,32 @@ module _ {s : List ℕ} {at : ℕ} where
   pub five-there : (a : Answer) → StandsAt s at a → at + 5 ≤ length s
   five-there (answer.Station c) h = station-tells h .inside
   five-there (answer.Day year d v) h = omega (arith, day-tells h .inside)
+  five-there (answer.Crop c n) h = omega (arith, crop-tells h .inside)
 
   pub nine-there : getD s at 0 ≢ 5 → (a : Answer) → StandsAt s at a → at + 9 ≤ length s
   nine-there other (answer.Station c) h = absurd (other (station-tells h .kind))
   nine-there other (answer.Day year d v) h = day-tells h .inside
+  nine-there other (answer.Crop c n) h = crop-tells h .inside
 
   -- kind 5
   pub is-station : getD s at 0 ≡ 5 → {c : Code} → c ≡ codeAt s (at + 1) → (a : Answer) → StandsAt s at a → answer.Station c ≡ a
   is-station five is (answer.Station c) h = ap answer.Station (is ∙ station-tells h .code)
   is-station five is (answer.Day year d (Figure n)) h = absurd (omega (arith, five, day-tells h .kind))
   is-station five is (answer.Day year d (Refused why)) h = absurd (omega (arith, five, day-tells h .kind))
+  is-station five is (answer.Crop c n) h = absurd (omega (arith, five, crop-tells h .kind))
 
-  module _ (other : getD s at 0 ≢ 5) {year d n : ℕ} (is-year : year ≡ wordAt s (at + 1)) (is-d : d ≡ wordAt s (at + 3))
+  -- kind 7
+  pub is-crop : getD s at 0 ≡ 7 → {c : Code} {n : ℕ} → c ≡ codeAt s (at + 1) → n ≡ wordAt s (at + 5) * 65536 + wordAt s (at + 5 + 2)
+      → (a : Answer) → StandsAt s at a → answer.Crop c n ≡ a
+  is-crop seven is-code is-value (answer.Station c) h = absurd (omega (arith, seven, station-tells h .kind))
+  is-crop seven is-code is-value (answer.Day year d (Figure n)) h = absurd (omega (arith, seven, day-tells h .kind))
+  is-crop seven is-code is-value (answer.Day year d (Refused why)) h = absurd (omega (arith, seven, day-tells h .kind))
+  is-crop seven is-code is-value (answer.Crop c n) h =
+      let of-code = is-code ∙ crop-tells h .code in
+      let of-value = is-value ∙ crop-tells h .value in
+      (λ i. answer.Crop (of-code i) (of-value i))
+
+  module _ (other : getD s at 0 ≢ 5) (no-crop : getD s at 0 ≢ 7) {year d n : ℕ} (is-year : year ≡ wordAt s (at + 1)) (is-d : d ≡ wordAt s (at + 3))
       (is-value : n ≡ wordAt s (at + 5) * 65536 + wordAt s (at + 5 + 2)) where
     same : {y e : ℕ} {v : Verdict} → DayTold s at y e v → {w : Verdict} → w ≡ v → answer.Day year d w ≡ answer.Day y e v
     same told e =
@@ -129,6 +172,7 @@ module _ {s : List ℕ} {at : ℕ} where
     is-figure three (answer.Station c) h = absurd (other (station-tells h .kind))
     is-figure three (answer.Day y e (Figure m)) h = same (day-tells h) (ap Figure (is-value ∙ day-tells h .value))
     is-figure three (answer.Day y e (Refused why)) h = absurd (omega (arith, three, day-tells h .kind))
+    is-figure three (answer.Crop c m) h = absurd (no-crop (crop-tells h .kind))
 
     -- kind 4
     pub is-refusal : getD s at 0 ≢ 3 → {r : Refusal} → ((why : Refusal) → n ≡ numberOf why → r ≡ why)
@@ -136,3 +180,4 @@ module _ {s : List ℕ} {at : ℕ} where
     is-refusal no-figure is (answer.Station c) h = absurd (other (station-tells h .kind))
     is-refusal no-figure is (answer.Day y e (Figure m)) h = absurd (no-figure (day-tells h .kind))
     is-refusal no-figure is (answer.Day y e (Refused why)) h = same (day-tells h) (ap Refused (is why (is-value ∙ day-tells h .value)))
+    is-refusal no-figure is (answer.Crop c m) h = absurd (no-crop (crop-tells h .kind))

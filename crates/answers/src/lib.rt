@@ -5,8 +5,9 @@ use day::Verdict;
 pub mod read_back;
 pub mod writing;
 
-// An answer of a log: a station's code, or a day's year, `d` and verdict.
+// An answer of a log: a station's code; a day's year, `d` and verdict; or a crop's letters and figure.
 pub enum Answer {
     Station(Code),
     Day(u16, u16, Verdict),
+    Crop(Code, u32),
 }

@@ -56,9 +56,12 @@ pub fn answer_at(answers: &[u8], at: usize) -> Answer
     if kind == 5 {
         return Answer::Station(code_at(answers, at + 1));
     }
+    let value = four_at(answers, at + 5);
+    if kind == 7 {
+        return Answer::Crop(code_at(answers, at + 1), value);
+    }
     let year = word(answers, at + 1);
     let d = word(answers, at + 3);
-    let value = four_at(answers, at + 5);
     if kind == 3 {
         return Answer::Day(year, d, Verdict::Figure(value));
     }
@@ -72,5 +75,6 @@ pub fn size(a: Answer) -> usize
     match a {
         Answer::Station(_) => 5,
         Answer::Day(_, _, _) => 9,
+        Answer::Crop(_, _) => 9,
     }
 }

@@ -1,5 +1,5 @@
--- How long a line is: the sum of its fields (`day-line-size`, `refused-line-size`), and never more than the lent 64 bytes (`day-line-most`,
--- `refused-line-most`). Assumes nothing.
+-- How long a line is: the sum of its fields (`day-line-size`, `crop-line-size`, `refused-line-size`), and never more than the lent 64 bytes (`day-line-most`,
+-- `crop-line-most`, `refused-line-most`). Assumes nothing.
 use mathlib.Core.Path.{_≡_, ap}
 use mathlib.Core.List.{[], _∷_}
 use Prim.Native.Nat.{ℕ, _+_, _^_, _≤_, _<_}
@@ -17,7 +17,7 @@ use Rattle.day.specs.declared.Refusal.{Refusal}
 use Rattle.day.specs.declared.Refusal.the-variants.{StationField, BadDate, Missing, OutOfRange, OutOfOrder, AboveClear, SumBelowOne}
 use Rattle.day.specs.declared.Verdict.{Verdict}
 use Rattle.day.specs.declared.Verdict.the-variants.{Figure, Refused}
-use Rattle.lines.specs.Text.{digits, padded, field, verdictText, dayLine, refusedLine}
+use Rattle.lines.specs.Text.{digits, padded, inches, field, verdictText, dayLine, cropLine, refusedLine}
 use Rattle.lines.proofs.Digits.{padded-short, digits-most, padded-most, inches-most}
 
 -- what holds of a verdict that code is handed: its figure fits in 32 bits
@@ -53,6 +53,13 @@ day-line-size code year d v = simp length-append
 pub day-line-most : (code : Code) (year d : ℕ) (v : Verdict) → year < 2 ^ 16 → d < 2 ^ 16 → Handed v → length (dayLine code year d v) ≤ 64
 day-line-most code year d v year-fits d-fits handed =
     omega (arith, day-line-size code year d v, padded-most 4 4 year (omega arith) (omega arith), padded-most 4 3 d (omega arith) (omega arith), verdict-most v handed)
+
+pub crop-line-size : (code : Code) (n : ℕ) → length (cropLine code n) ≡ 4 + length (field (inches n)) + 1
+unfolding cropLine
+crop-line-size code n = simp length-append
+
+pub crop-line-most : (code : Code) (n : ℕ) → n < 2 ^ 32 → length (cropLine code n) ≤ 64
+crop-line-most code n fits = omega (arith, crop-line-size code n, inches-most 5 n (omega arith))
 
 pub refused-line-size : (number value : ℕ) → length (refusedLine number value) ≡ 8 + length (digits number) + length (field (padded 0 value)) + 1
 unfolding refusedLine

@@ -60,6 +60,10 @@ unfoldable pub dayLine : Code → ℕ → ℕ → Verdict → List ℕ
 dayLine code year d verdict =
     codeText code ++ field (padded 4 year) ++ field (padded 3 d) ++ field (verdictText verdict) ++ newline ∷ []
 
+-- the line of a crop's figure: "An answer kind that a request adds prints its fields after the kind in the same way, figures in inches"
+unfoldable pub cropLine : Code → ℕ → List ℕ
+cropLine code n = codeText code ++ field (inches n) ++ newline ∷ []
+
 -- "A refused log prints only `REFUSED`, the number and the offset or length"
 unfoldable pub refusedLine : ℕ → ℕ → List ℕ
 refusedLine number value =

@@ -68,6 +68,15 @@ fn put_inches(out: &mut [u8], at: usize, n: u64) -> usize
     put_number(out, decimals, 4, n % 10_000)
 }
 
+// The same, after another field.
+pub fn put_inches_field(out: &mut [u8], at: usize, n: u64) -> usize
+    requires { ⌜ at + length (field (inches n)) ≤ length (now out) ⌝ }
+    ensures { λ r. ⌜ Written (now (out .entry)) at (field (inches n)) (now (out .exit)) r ⌝ }
+{
+    let start = put_byte(out, at, b' ');
+    put_inches(out, start, n)
+}
+
 // A number that follows another field.
 pub fn put_number_field(out: &mut [u8], at: usize, least: usize, n: u64) -> usize
     requires { ⌜ at + length (field (padded least n)) ≤ length (now out) ⌝ }

@@ -1,5 +1,5 @@
 // One line in a buffer of its own, and how long it is. Nothing is asked of the caller, since the longest line, a refused log's, has 33 bytes.
-ghost use Rattle.lines.specs.Text.{dayLine, refusedLine};
+ghost use Rattle.lines.specs.Text.{dayLine, cropLine, refusedLine};
 ghost use Rattle.lines.specs.Text.{header as Text·header};
 ghost use Rattle.lines.specs.Written.{AtFront};
 use crate::whole;
@@ -18,6 +18,13 @@ pub fn day_line(code: Code, year: u16, d: u16, verdict: Verdict, out: &mut [u8; 
     ensures { λ r. ⌜ AtFront (now (out .entry)) (dayLine code year d verdict) (now (out .exit)) r ⌝ }
 {
     whole::put_day_line(out, 0, code, year, d, verdict)
+}
+
+// The line of a crop's figure.
+pub fn crop_line(code: Code, n: u32, out: &mut [u8; 64]) -> usize
+    ensures { λ r. ⌜ AtFront (now (out .entry)) (cropLine code n) (now (out .exit)) r ⌝ }
+{
+    whole::put_crop_line(out, 0, code, n)
 }
 
 // The line of a refused log.

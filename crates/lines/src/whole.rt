@@ -1,12 +1,13 @@
 // Whole lines, laid over a buffer from `at` on, each with its newline.
 ghost use Prim.Native.Nat.{_+_, _≤_};
 ghost use lib.ListN.{length};
-ghost use Rattle.lines.specs.Text.{header, dayLine, refusedLine};
+ghost use Rattle.lines.specs.Text.{header, dayLine, cropLine, refusedLine};
 ghost use Rattle.lines.specs.Written.{Written};
 use crate::fields::put_byte;
 use crate::fields::put_code;
 use crate::fields::put_digits;
 use crate::fields::put_four;
+use crate::fields::put_inches_field;
 use crate::fields::put_number_field;
 use crate::fields::put_verdict_field;
 use day::Code;
@@ -38,6 +39,15 @@ pub fn put_day_line(
     let d_end = put_number_field(out, year_end, 3, d as u64);
     let verdict_end = put_verdict_field(out, d_end, verdict);
     put_byte(out, verdict_end, b'\n')
+}
+
+pub fn put_crop_line(out: &mut [u8], at: usize, code: Code, n: u32) -> usize
+    requires { ⌜ at + length (cropLine code n) ≤ length (now out) ⌝ }
+    ensures { λ r. ⌜ Written (now (out .entry)) at (cropLine code n) (now (out .exit)) r ⌝ }
+{
+    let code_end = put_code(out, at, code);
+    let figure_end = put_inches_field(out, code_end, n as u64);
+    put_byte(out, figure_end, b'\n')
 }
 
 pub fn put_refused_line(out: &mut [u8], at: usize, number: u8, value: usize) -> usize

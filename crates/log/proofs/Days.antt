@@ -1,10 +1,11 @@
--- What is known of a day record of a log: its answer stands at its place (`answer-at`), and a good date is one of the calendar (`good-date`).
+-- What is known of a day record of a log: its answer stands at its place (`answer-at`), its crop's figure behind it (`crop-answer-at`), and a good date is one of the calendar (`good-date`).
 -- Assumes nothing.
 use mathlib.Core.Path.{_≡_, refl, sym, ap, _∙_}
 use mathlib.Core.Bool.{Bool, true, false, cond}
-use mathlib.Core.List.{List, _∷_, _++_, append-assoc}
+use mathlib.Core.List.{List, [], _∷_, _++_, append-assoc, append-nil}
 use Prim.Native.Nat.{ℕ, _+_}
-use lib.ListN.{length, take, drop}
+use native.Mathlib.Omega.{arith}
+use lib.ListN.{length, take, drop, length-append}
 use lib.Seq.{take-at, drop-at}
 use Rattle.day.specs.Calendar.{isDate}
 use Rattle.day.specs.declared.Day.{Day}
@@ -14,9 +15,11 @@ use Rattle.day.specs.declared.Verdict.{Verdict}
 use Rattle.answers.specs.Answers.{dayAnswer, answerBytes, bytesOf}
 use Rattle.log.specs.Days.{DayAt, verdictAt}
 use Rattle.log.specs.History.{afterLast, goodDate, verdictOf}
-use Rattle.log.specs.Log.{day, answersTo, answersOf, Reading, entriesOf, outcomeOf, leaves, bufferAfter}
+use Rattle.log.specs.Log.{day, cropAnswers, answersFor, answersTo, answersOf, Reading, entriesOf, outcomeOf, leaves, bufferAfter}
 use Rattle.log.specs.declared.Outcome.{Outcome}
 use Rattle.log.specs.declared.Outcome.the-variants.{Written}
+use Rattle.answers.specs.declared.Answer.{Answer}
+use Rattle.answers.proofs.Bytes.{bytes-append}
 use Rattle.log.proofs.Walked.{answers-append}
 
 -- ---- the answer
@@ -41,22 +44,44 @@ module _ {s : List ℕ} {i : ℕ} {x : Station} {y : Day} {earlier : Earlier} {g
   unfolding verdictOf
   verdict-is = rw (d .stationed, d .means, d .dated)
 
-  -- in the buffer that an accepted log leaves, the day's own answer stands at its place
-  pub answer-at : (buffer : List ℕ) {n : ℕ} → outcomeOf s (length buffer) ≡ Written n
-      → take 9 (drop place (bufferAfter s buffer)) ≡ answerBytes (dayAnswer y (verdictAt x y earlier good))
-  unfolding bufferAfter
-  answer-at buffer {n} e =
-      let own = answerBytes (dayAnswer y (verdictOf (d .block .station) (d .block .days) y)) in
-      let front = bytesOf (answersOf (d .before)) in
-      let back = bytesOf (answersOf (d .later)) in
-      let answers : bytesOf (answersTo s) ≡ front ++ (own ++ back) =
-      ap (λ (r : Reading). bytesOf (answersOf (entriesOf r))) (d .stands) ∙ answers-append (d .before) (day (d .block) y ∷ d .later) in
-      let whole : bufferAfter s buffer ≡ front ++ (own ++ (back ++ drop n buffer)) =
-      ap (λ (o : Outcome). leaves o (bytesOf (answersTo s)) buffer) e
-      ∙ ap (λ (l : List ℕ). l ++ drop n buffer) answers
-      ∙ append-assoc front (own ++ back) (drop n buffer)
-      ∙ ap (λ (l : List ℕ). front ++ l) (append-assoc own back (drop n buffer)) in
-      ap (λ (l : List ℕ). take 9 (drop place l)) whole ∙ nine-at front own (back ++ drop n buffer) refl (d .behind) ∙ ap (λ (v : Verdict). answerBytes (dayAnswer y v)) verdict-is
+  -- the answers before it, its own, the crop's, and all that stands behind
+  module _ (buffer : List ℕ) {n : ℕ} (e : outcomeOf s (length buffer) ≡ Written n) where
+    abbrev front : List ℕ
+    front = bytesOf (answersOf (d .before))
+
+    abbrev own : List ℕ
+    own = answerBytes (dayAnswer y (verdictAt x y earlier good))
+
+    abbrev crops : List ℕ
+    crops = bytesOf (cropAnswers (d .block .crop) y (verdictAt x y earlier good))
+
+    abbrev back : List ℕ
+    back = bytesOf (answersOf (d .later)) ++ drop n buffer
+
+    whole : bufferAfter s buffer ≡ front ++ (own ++ (crops ++ back))
+    unfolding bufferAfter
+    whole =
+        ap (λ (o : Outcome). leaves o (bytesOf (answersTo s)) buffer) e
+        ∙ ap (λ (r : Reading). bytesOf (answersOf (entriesOf r)) ++ drop n buffer) (d .stands)
+        ∙ ap (λ (l : List ℕ). l ++ drop n buffer) (answers-append (d .before) (day (d .block) y ∷ d .later))
+        ∙ append-assoc front (bytesOf (answersOf (day (d .block) y ∷ d .later))) (drop n buffer)
+        ∙ ap (λ (l : List ℕ). front ++ (l ++ drop n buffer)) (bytes-append (answersFor (day (d .block) y)) (answersOf (d .later)))
+        ∙ ap (λ (v : Verdict). front ++ (((answerBytes (dayAnswer y v) ++ bytesOf (cropAnswers (d .block .crop) y v)) ++ bytesOf (answersOf (d .later))) ++ drop n buffer)) verdict-is
+        ∙ simp append-assoc
+
+    -- in the buffer that an accepted log leaves, the day's own answer stands at its place
+    pub answer-at : take 9 (drop place (bufferAfter s buffer)) ≡ own
+    answer-at = ap (λ (l : List ℕ). take 9 (drop place l)) whole ∙ nine-at front own (crops ++ back) refl (d .behind)
+
+    -- and the crop's right behind it
+    pub crop-answer-at : {a : Answer} → length (answerBytes a) ≡ 9 → cropAnswers (d .block .crop) y (verdictAt x y earlier good) ≡ a ∷ []
+        → take 9 (drop (place + 9) (bufferAfter s buffer)) ≡ answerBytes a
+    crop-answer-at {a} nine is =
+        ap (λ (l : List ℕ). take 9 (drop (place + 9) l))
+        (whole ∙ sym (append-assoc front own (crops ++ back))
+        ∙ ap (λ (l : List Answer). (front ++ own) ++ (bytesOf l ++ back)) is
+        ∙ ap (λ (l : List ℕ). (front ++ own) ++ (l ++ back)) (append-nil (answerBytes a)))
+        ∙ nine-at (front ++ own) (answerBytes a) back {place = place + 9} nine (omega (arith, d .behind, length-append front own))
 
   pub good-in-calendar : good ≡ true → isDate (y .year) (y .d) ≡ true
   good-in-calendar g = good-date (d .block .days) y (sym (d .dated) ∙ g)

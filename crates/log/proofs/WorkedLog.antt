@@ -18,7 +18,7 @@ use Rattle.records.specs.Bytes.{wordAt, signedOf, signedAt}
 use Rattle.log.specs.Days.{DayAt}
 use Rattle.log.specs.Demand.{AnsweredDay}
 use Rattle.log.specs.History.{daysBefore, goodDate, counted, earlierMeans, verdictOf}
-use Rattle.log.specs.Log.{answersTo, readFrom, readingOf, entriesOf, outcomeOf, bufferAfter}
+use Rattle.log.specs.Log.{bare, answersTo, readFrom, readingOf, entriesOf, outcomeOf, bufferAfter}
 use Rattle.answers.specs.declared.Answer.the-variants as answer
 use Rattle.records.specs.Record.{stationAt, dayAt, recordAt}
 use Rattle.log.proofs.Sample.{sample, station, third}
@@ -88,7 +88,7 @@ year-end =
     record {
       before = take 2 (entriesOf (readingOf twoBlocks));
       later = drop 3 (entriesOf (readingOf twoBlocks));
-      block = record { station = stationAt twoBlocks 1; days = dayAt twoBlocks 20 ∷ [] };
+      block = record { station = stationAt twoBlocks 1; days = dayAt twoBlocks 20 ∷ []; crop = bare };
       stands = refl;
       index = refl;
       stationed = refl;

@@ -5,7 +5,7 @@ use mathlib.Core.List.{List}
 use Prim.Native.Nat.{ℕ, _≤_}
 use lib.ListN.{length, drop}
 use Rattle.answers.specs.Answers.{bytesOf}
-use Rattle.log.specs.Log.{longest, answersTo, leaves, bufferAfter, Read}
+use Rattle.log.specs.Log.{longestAnswers, answersTo, leaves, bufferAfter, Read}
 use Rattle.log.specs.declared.Outcome.{Outcome}
 use Rattle.log.specs.declared.Outcome.the-variants.{Written}
 use Rattle.log.proofs.OutcomeSize.{Small, outcome-small, written-size}
@@ -14,7 +14,7 @@ use Rattle.text.specs.Walk.{Holds}
 use Rattle.text.specs.declared.Printed.{Printed}
 
 module _ {s buffer after : List ℕ} where
-  pub answers-few : {n : ℕ} → Read s buffer (Written n) after → n ≤ longest
+  pub answers-few : {n : ℕ} → Read s buffer (Written n) after → n ≤ longestAnswers
   answers-few h = subst Small (sym (h .outcome)) (outcome-small s (length buffer))
 
   pub answers-held : {n : ℕ} → Read s buffer (Written n) after → Holds after n (answersTo s)

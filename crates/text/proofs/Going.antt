@@ -22,6 +22,7 @@ use Rattle.text.proofs.Laid.{laid-none, then-laid}
 pub some-bytes : (a : Answer) → 1 ≤ length (answerBytes a)
 some-bytes (answer.Station code) = lit≤ tt
 some-bytes (answer.Day year d verdict) = lit≤ tt
+some-bytes (answer.Crop code n) = lit≤ tt
 
 -- Of the answers `all`, `left` stand from the index `at` on; the lines of those before them, `done`, are laid. The buffer was `before`.
 pub record Going (s : List ℕ) (n : ℕ) (writes : Bool) (before : List ℕ) (start : ℕ) (text : List ℕ) (at to : ℕ) (block : Open) (all : List Answer)

@@ -1,13 +1,17 @@
--- How long a report can be: no day's line is longer than 21 bytes (`line-most`), and no report than 80,929 (`report-most`), that of one station and
--- 3,853 days. The theorem is `long-enough`. Assumes nothing.
+-- How long a report can be: no day's line is longer than 21 bytes (`line-most`), no crop's than 13 (`crop-most`), and no report than 130,984
+-- (`report-most`). The theorem is `long-enough`. Assumes nothing.
 use mathlib.Core.Path.{_≡_, refl, ap}
-use mathlib.Core.Bool.{true, not}
+use mathlib.Core.Bool.{Bool, true, false, not, cond}
 use mathlib.Core.List.{List, [], _∷_, _++_}
 use Prim.Native.Nat.{ℕ, _+_, _*_, _≤_, _<_}
 use native.Mathlib.Omega.{arith}
 use lib.Dec.{ltb}
 use lib.ListN.{length, length-append}
 use borrow.Author.Tests.{ltb-false}
+use Rattle.answers.specs.declared.Answer.{Answer}
+use Rattle.crops.specs.Crop.{badCrop, inSeason, cropFigure}
+use Rattle.crops.specs.declared.Crop.{Crop}
+use Rattle.crops.proofs.CropFigure.{twice-most}
 use Rattle.day.specs.Calendar.{isDate}
 use Rattle.day.specs.Judgement.{holds, judged}
 use Rattle.day.specs.declared.Code.{Code}
@@ -24,20 +28,21 @@ use Rattle.records.specs.Record.{dayAt}
 use Rattle.records.proofs.Choice.{by-cond}
 use Rattle.answers.specs.Answers.{bytesOf}
 use Rattle.log.specs.History.{goodDate, earlierMeans, verdictOf}
-use Rattle.log.specs.Log.{Entry, station, day, longest, answersTo, answersOf, readingOf, entriesOf, outcomeOf, settled}
+use Rattle.log.specs.Log.{Planted, bare, planted, Entry, station, day, crop, cropAnswers, longest, longestAnswers, answersTo, answersOf, readingOf, entriesOf, outcomeOf, settled}
 use Rattle.log.specs.declared.Outcome.{Outcome}
 use Rattle.log.specs.declared.Outcome.the-variants as outcome
 use Rattle.log.proofs.Calendar.{date-tells}
+use Rattle.log.proofs.Carried.{PlantedSound}
 use Rattle.log.proofs.Days.{good-date}
-use Rattle.log.proofs.Longest.{daysOf, answers-most, days-most}
+use Rattle.log.proofs.Longest.{daysOf, figuresOf, answers-most, lines-room}
 use Rattle.log.proofs.OutcomeSize.{Small, outcome-small, outcome-alike}
 use Rattle.log.proofs.Stations.{Sound, SoundEntries, sound-reading, station-constants}
 use Rattle.text.specs.Report.{linesFrom, linesOf, textOf, reportOf, wholeReport, AreBytes, LongEnough}
-use Rattle.lines.specs.Text.{header, verdictText, dayLine}
+use Rattle.lines.specs.Text.{header, verdictText, dayLine, cropLine}
 use Rattle.text.specs.declared.walk.Open.{Open}
 use Rattle.text.specs.declared.walk.Open.the-variants.{NoBlock, In}
 use Rattle.lines.proofs.Digits.{padded-most, inches-most}
-use Rattle.lines.proofs.Lengths.{refusal-most, day-line-size, refused-line-most}
+use Rattle.lines.proofs.Lengths.{refusal-most, day-line-size, crop-line-size, refused-line-most}
 
 module _ (s : List ℕ) (bytes : AreBytes s) where
   -- ---- a day's line
@@ -87,30 +92,69 @@ module _ (s : List ℕ) (bytes : AreBytes s) where
         by (Figure n) e date = figure-line-most date n e
         by (Refused r) e date = refused-most r
 
+    figure-small : (n : ℕ) → verdictOf x h y ≡ Figure n → n ≤ 80_000
+    unfolding verdictOf
+    figure-small n e = by (goodDate h y) e
+      where
+        by : (b : Bool) → cond b (judged x y (earlierMeans h y)) (Refused BadDate) ≡ Figure n → n ≤ 80_000
+        by true told = figure-most x y (earlierMeans h y) (station-constants sound) told
+        by false told = let z : _≡_ {A = ℕ} 0 1 = cc in absurd (omega arith)
+
+  -- ---- a crop's line: two digits before the point at most
+
+  crop-most : (c : Crop) (y : Day) → badCrop c ≡ false → {n : ℕ} → n ≤ 80_000 → length (cropLine (c .code) (cropFigure c (y .d) n)) ≤ 13
+  crop-most c y good {n} small =
+      let m = cropFigure c (y .d) n in
+      let twice : m ≤ 160_000 = omega (arith, twice-most c good (y .d) n) in
+      omega (arith, crop-line-size (c .code) m, inches-most 1 m (omega arith))
+
+  module _ (block : Open) (rest : List Answer) where
+    -- the lines of some answers of a crop, before the rest
+    abbrev Few : List Answer → Type 0
+    Few l = length (linesFrom block (l ++ rest)) ≤ 13 * length l + length (linesFrom block rest)
+
+    crops-most : (pl : Planted) (y : Day) (v : Verdict) → PlantedSound pl → ((n : ℕ) → v ≡ Figure n → n ≤ 80_000) → Few (cropAnswers pl y v)
+    crops-most bare y v sound small = omega arith
+    crops-most (planted c) y (Refused r) sound small = omega arith
+    crops-most (planted c) y (Figure n) sound small =
+        by-cond Few (inSeason c (y .year) (y .d))
+        (λ e. omega (arith, crop-most c y sound (small n refl), length-append (cropLine (c .code) (cropFigure c (y .d) n)) (linesFrom block rest)))
+        (λ e. omega arith)
+
   -- ---- the report
 
-  lines-most : (es : List Entry) → SoundEntries s es → (block : Open) → length (linesFrom block (answersOf es)) ≤ 21 * daysOf es
+  lines-most : (es : List Entry) → SoundEntries s es → (block : Open) → length (linesFrom block (answersOf es)) ≤ 21 * daysOf es + 13 * figuresOf es
   lines-most [] f block = omega arith
   lines-most (station x ∷ es) f block = lines-most es (f .1) (In (x .code))
-  lines-most (day b y ∷ es) f NoBlock = omega (arith, lines-most es (f .1) NoBlock)
+  lines-most (crop b c ∷ es) f block = lines-most es (f .1) block
+  lines-most (day b y ∷ es) f NoBlock =
+      omega (
+        arith,
+        lines-most es (f .1) NoBlock,
+        crops-most NoBlock (answersOf es) (b .crop) y (verdictOf (b .station) (b .days) y) (f .0 .0 .1)
+            (figure-small (b .station .code) (b .station) (b .days) y (f .0 .0 .0) (f .0 .1)),
+      )
   lines-most (day b y ∷ es) f (In code) =
       omega (
         arith,
         lines-most es (f .1) (In code),
-        line-most code (b .station) (b .days) y (f .0 .0) (f .0 .1),
-        length-append (dayLine code (y .year) (y .d) (verdictOf (b .station) (b .days) y)) (linesFrom (In code) (answersOf es)),
+        line-most code (b .station) (b .days) y (f .0 .0 .0) (f .0 .1),
+        crops-most (In code) (answersOf es) (b .crop) y (verdictOf (b .station) (b .days) y) (f .0 .0 .1)
+            (figure-small code (b .station) (b .days) y (f .0 .0 .0) (f .0 .1)),
+        length-append (dayLine code (y .year) (y .d) (verdictOf (b .station) (b .days) y))
+            (linesFrom (In code) (cropAnswers (b .crop) y (verdictOf (b .station) (b .days) y) ++ answersOf es)),
       )
 
   abbrev Short : Outcome → Type 0
-  Short o = length (textOf o (answersTo s)) ≤ 80929
+  Short o = length (textOf o (answersTo s)) ≤ 130984
 
-  text-most : length s ≤ longest → length (header ++ linesOf (answersTo s)) ≤ 80929
+  text-most : length s ≤ longest → length (header ++ linesOf (answersTo s)) ≤ 130984
   text-most short =
       omega (
         arith,
         length-append header (linesOf (answersTo s)),
         lines-most (entriesOf (readingOf s)) (sound-reading s) NoBlock,
-        days-most s short,
+        lines-room s short,
       )
 
   refused-short : (number value : ℕ) → Small (outcome.Refused number value) → Short (outcome.Refused number value)
@@ -121,17 +165,17 @@ module _ (s : List ℕ) (bytes : AreBytes s) where
   any-short short (outcome.Written n) small = text-most short
   any-short short (outcome.Refused number value) small = refused-short number value small
 
-  pub report-most : (size : ℕ) → length (reportOf s size) ≤ 80929
+  pub report-most : (size : ℕ) → length (reportOf s size) ≤ 130984
   unfolding reportOf outcomeOf
   report-most size =
       by-cond (λ o. Small o → Short o) (ltb longest (length s)) (λ e. refused-short 5 0)
       (λ e. any-short (ltb-false longest (length s) e) (settled (readingOf s) size)) (outcome-small s size)
 
-pub long-enough : LongEnough 34682 80929
+pub long-enough : LongEnough longestAnswers 130984
 unfolding LongEnough wholeReport
 long-enough s bytes = (answers-most s, report-most s bytes (length (bytesOf (answersTo s))))
 
 -- with so many bytes for the answers, the report is the whole one
-pub whole : (s : List ℕ) → reportOf s 34682 ≡ wholeReport s
+pub whole : (s : List ℕ) → reportOf s longestAnswers ≡ wholeReport s
 unfolding wholeReport reportOf
-whole s = ap (λ (o : Outcome). textOf o (answersTo s)) (outcome-alike s 34682 (answers-most s))
+whole s = ap (λ (o : Outcome). textOf o (answersTo s)) (outcome-alike s longestAnswers (answers-most s))

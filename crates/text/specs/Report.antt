@@ -12,7 +12,7 @@ use Rattle.answers.specs.declared.Answer.{Answer}
 use Rattle.answers.specs.declared.Answer.the-variants as answer
 use Rattle.log.specs.declared.Outcome.{Outcome}
 use Rattle.log.specs.declared.Outcome.the-variants as outcome
-use Rattle.lines.specs.Text.{header, dayLine, refusedLine}
+use Rattle.lines.specs.Text.{header, dayLine, cropLine, refusedLine}
 use Rattle.text.specs.declared.Printed.{Printed}
 use Rattle.text.specs.declared.Printed.the-variants.{Written, Needs}
 use Rattle.text.specs.declared.walk.Open.{Open}
@@ -23,17 +23,19 @@ abbrev pub aboutBlock : Open → List ℕ
 aboutBlock block = []
 
 -- "An answer kind that a request adds prints its fields after the kind in the same way, figures in inches, in answer order."
--- What an answer prints: a day has its line, with its block's code. "A station prints no line of its own", but where it stands the block before it
+-- What an answer prints: a day has its line, with its block's code, and a crop's figure has one. "A station prints no line of its own", but where it stands the block before it
 -- has ended. No log answers a day before a station: it is refused with 4 (`station-first` in log/proofs/Longest.antt).
 abbrev pub lineOf : Open → Answer → List ℕ
 lineOf block (answer.Station code) = aboutBlock block
 lineOf NoBlock (answer.Day year d verdict) = []
 lineOf (In code) (answer.Day year d verdict) = dayLine code year d verdict
+lineOf block (answer.Crop code n) = cropLine code n
 
 -- the block that is open after an answer
 abbrev pub openAfter : Open → Answer → Open
 openAfter block (answer.Station code) = In code
 openAfter block (answer.Day year d verdict) = block
+openAfter block (answer.Crop code n) = block
 
 -- "in answer order"
 abbrev pub linesFrom : Open → List Answer → List ℕ

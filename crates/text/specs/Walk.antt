@@ -5,7 +5,7 @@ use mathlib.Core.Path.{_≡_}
 use Prim.Native.Nat.{ℕ, _+_, _*_}
 use lib.ListN.{length}
 use Rattle.answers.specs.Answers.{bytesOf}
-use Rattle.log.specs.Log.{longest}
+use Rattle.log.specs.Log.{longestAnswers}
 use Rattle.answers.specs.Overwriting.{laidIf}
 use Rattle.answers.specs.declared.Answer.{Answer}
 
@@ -15,9 +15,9 @@ pub record Holds (s : List ℕ) (n : ℕ) (answers : List Answer) : Type 0 where
   pub rest : List ℕ
   pub bytes : s ≡ bytesOf answers ++ rest
 
--- further than this no text goes: no line has more than 64 bytes, and each takes at least one of the 65,536 bytes that answers have at most
+-- further than this no text goes: no line has more than 64 bytes, and each takes at least one of the bytes of the longest answers
 abbrev pub farthest : ℕ
-farthest = 64 + 64 * longest
+farthest = 64 + 64 * longestAnswers
 
 -- `next` is the index behind a text from the index `at` on; a pass that writes has laid the text over the buffer there
 pub record Laid (writes : Bool) (before : List ℕ) (at : ℕ) (text after : List ℕ) (next : ℕ) : Type 0 where

@@ -4,7 +4,7 @@ ghost use mathlib.Core.Path.{_≡_};
 ghost use Prim.Native.Nat.{_≤_};
 ghost use lib.ListN.{length};
 ghost use Rattle.log.specs.Demand.{FiguresOwed};
-ghost use Rattle.log.specs.Log.{longest, bufferAfter};
+ghost use Rattle.log.specs.Log.{longestAnswers, bufferAfter};
 ghost use Rattle.answers.specs.declared.Answer.{Answer as Answered};
 ghost use Rattle.text.specs.Report.{linesOf, reportOf, wholeReport, Prints};
 ghost use Rattle.lines.specs.Text.{header as Text·header};
@@ -22,10 +22,10 @@ pub enum Printed {
     Needs(usize),
 }
 
-// The longest answers and the longest report that a log can have: those of one station and 3,853 answered days.
-pub const LONGEST_ANSWERS: usize = 34_682;
+// No log has longer answers, and none a longer report, than one station, one crop and 3,852 answered days with a crop figure each would have.
+pub const LONGEST_ANSWERS: usize = 69_341;
 
-pub const LONGEST_REPORT: usize = 80_929;
+pub const LONGEST_REPORT: usize = 130_984;
 
 // A refused log's line.
 fn print_refused(number: u8, value: usize, text: &mut [u8]) -> Printed
@@ -41,7 +41,7 @@ fn print_refused(number: u8, value: usize, text: &mut [u8]) -> Printed
 
 // The header and the lines of the answers that the first n bytes hold. They are counted first, so that a text buffer that is too short is left as it was.
 fn print_answers(answers: &[u8], n: usize, text: &mut [u8]) -> Printed
-    requires { ⌜ n ≤ longest ⌝ }
+    requires { ⌜ n ≤ longestAnswers ⌝ }
     requires { ⌜ ((all : List Answered) × Holds (now answers) n all) ⌝ }
     ensures { λ r. ⌜ ((all : List Answered) → Holds (now (answers .entry)) n all → Prints (Text·header ++ linesOf all) (now (text .entry)) r (now (text .exit))) ⌝ }
 {

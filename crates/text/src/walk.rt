@@ -4,17 +4,19 @@ ghost use mathlib.Core.List.{List};
 ghost use mathlib.Core.Path.{_≡_};
 ghost use Prim.Native.Nat.{_+_, _≤_};
 ghost use lib.ListN.{length};
-ghost use Rattle.log.specs.Log.{longest};
+ghost use Rattle.log.specs.Log.{longestAnswers};
 ghost use Rattle.answers.specs.declared.Answer.{Answer as Answered};
 ghost use Rattle.text.specs.Report.{lineOf, openAfter, linesOf};
-ghost use Rattle.lines.specs.Text.{dayLine};
+ghost use Rattle.lines.specs.Text.{dayLine, cropLine};
 ghost use Rattle.text.specs.Walk.{farthest, Holds, Laid};
 use answers::Answer;
 use answers::read_back::answer_at;
 use answers::read_back::size;
 use day::Code;
 use day::Verdict;
+use lines::single::crop_line;
 use lines::single::day_line;
+use lines::whole::put_crop_line;
 use lines::whole::put_day_line;
 
 // The block whose answers are being printed.
@@ -44,6 +46,19 @@ fn put_day(
     to + day_line(code, year, d, verdict, &mut line)
 }
 
+// The line of a crop's figure from `to` on.
+fn put_crop(text: &mut [u8], to: usize, code: Code, n: u32, writes: bool) -> usize
+    requires { ⌜ to ≤ farthest ⌝ }
+    requires { ⌜ (writes ≡ true → to + length (cropLine code n) ≤ length (now text)) ⌝ }
+    ensures { λ r. ⌜ Laid writes (now (text .entry)) to (cropLine code n) (now (text .exit)) r × (r ≤ to + 64) ⌝ }
+{
+    if writes {
+        return put_crop_line(text, to, code, n);
+    }
+    let mut line = [0u8; 64];
+    to + crop_line(code, n, &mut line)
+}
+
 // What an answer prints, from `to` on.
 fn put_line(text: &mut [u8], to: usize, block: Open, a: Answer, writes: bool) -> usize
     requires { ⌜ to ≤ farthest ⌝ }
@@ -56,6 +71,7 @@ fn put_line(text: &mut [u8], to: usize, block: Open, a: Answer, writes: bool) ->
             Open::NoBlock => to,
             Open::In(code) => put_day(text, to, code, year, d, verdict, writes),
         },
+        Answer::Crop(code, n) => put_crop(text, to, code, n, writes),
     }
 }
 
@@ -66,12 +82,13 @@ fn open_after(block: Open, a: Answer) -> Open
     match a {
         Answer::Station(code) => Open::In(code),
         Answer::Day(_, _, _) => block,
+        Answer::Crop(_, _) => block,
     }
 }
 
 // The lines of the answers that the first n bytes hold, from `start` on.
 pub fn put_lines(answers: &[u8], n: usize, text: &mut [u8], start: usize, writes: bool) -> usize
-    requires { ⌜ (n ≤ longest) × (start ≤ 64) ⌝ }
+    requires { ⌜ (n ≤ longestAnswers) × (start ≤ 64) ⌝ }
     requires { ⌜ ((all : List Answered) × Holds (now answers) n all × (writes ≡ true → start + length (linesOf all) ≤ length (now text))) ⌝ }
     ensures { λ r. ⌜ ((all : List Answered) → Holds (now (answers .entry)) n all → Laid writes (now (text .entry)) start (linesOf all) (now (text .exit)) r) ⌝ }
 {

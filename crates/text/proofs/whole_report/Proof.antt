@@ -6,6 +6,7 @@ use native.Mathlib.Omega.{arith}
 use lib.ListN.{length}
 use denote.Ref.{now}
 use borrow.Author.Needs.{needs}
+use Rattle.log.specs.Log.{longestAnswers}
 use Rattle.text.specs.Report.{reportOf, wholeReport, Prints, AreBytes, LongEnough}
 use Rattle.text.specs.declared.Printed.{Printed}
 use Rattle.text.proofs.LongEnough.{long-enough, whole}
@@ -29,7 +30,7 @@ module _ (c : tie.After-write-report) where
 
   prints : {p : Printed} → c .write-report .result ≡ p → Prints (wholeReport (now (s .args .log))) (now (s .args .text)) p (c .write-report .last .1 .1 .0)
   prints e =
-      let long : length (now (s .args .answers)) ≡ 34682 = omega arith in
+      let long : length (now (s .args .answers)) ≡ longestAnswers = omega arith in
       let same = ap (reportOf (now (s .args .log))) long ∙ whole (now (s .args .log)) in
       subst₂ (λ (r : List ℕ) (p : Printed). Prints r (now (s .args .text)) p (c .write-report .last .1 .1 .0)) same e (c .write-report .ensures .0)
 

@@ -7,4 +7,4 @@ returns : tie.Need-returns
 returns c = rw (c .before .a .given .1)
 
 pub open-after-spec : {M : Type 1} → statement M
-open-after-spec = tie.close (tie.spec (λ c. search needs) (λ c. search needs) returns (λ c. search needs))
+open-after-spec = tie.close (tie.spec (λ c. search needs) (λ c. search needs) (λ c. search needs) returns (λ c. search needs) (λ c. search needs))

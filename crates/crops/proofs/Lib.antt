@@ -1,0 +1,5 @@
+-- The lemmas that belong to no one function.
+pub mod Faultless
+pub mod CropFigure
+pub mod CropBound
+pub mod Examples

@@ -1,0 +1,34 @@
+-- `text::walk::put_crop` meets its contract. Assumes nothing.
+use Prim.Native.Nat.{_≤_}
+use native.Mathlib.Omega.{arith}
+use lib.ListN.{length}
+use borrow.Author.Needs.{needs}
+use Rattle.lines.specs.Text.{cropLine}
+use Rattle.text.proofs.Laid.{laid-written, laid-counted}
+use Rattle.lines.proofs.Lengths.{crop-line-most}
+use Rattle.text.proofs.walk.put_crop.Statement.{statement}
+use Rattle.text.proofs.walk.put_crop.Tie as tie
+
+short : (s : tie.Start) → let x = s .args in length (cropLine (x .code) (x .n)) ≤ 64
+short s = let x = s .args in crop-line-most (x .code) (x .n) (omega arith)
+
+put-crop-line-requires : tie.Need-put-crop-line-requires
+put-crop-line-requires c κs = c .before .before .before .pre .1 (c .before .if1 .taken)
+
+returns : tie.Need-returns
+returns c =
+    let called = c .before .before in
+    let wrote = called .before .before in
+    let w = called .put-crop-line .ensures in
+    (laid-written (wrote .if1 .taken) w, omega (arith, w .behind, short (wrote .before .before)))
+
+add-result : tie.Need-add-result
+add-result c = omega (arith, c .crop-line .ensures .size, short (c .before .before .before .before))
+
+returns-2 : tie.Need-returns-2
+returns-2 c =
+    let size = c .crop-line .ensures .size in
+    (laid-counted (c .before .before .if1 .left) size, omega (arith, size, short (c .before .before .before .before)))
+
+pub put-crop-spec : {M : Type 1} → statement M
+put-crop-spec = tie.close (tie.spec put-crop-line-requires (λ c. search needs) returns (λ c κs. search needs) add-result returns-2)
