@@ -1,7 +1,7 @@
 //! The days and logs to compare on, from a seeded generator: the same seed gives the same days everywhere.
 use crate::second::judge;
 use crate::second::sheet::clear_day;
-use crate::{Day, Earlier, Station, Verdict};
+use crate::{Crop, Day, Earlier, Station, Verdict};
 
 /// The generator splitmix64.
 pub struct Random(u64);
@@ -388,6 +388,14 @@ pub fn day_record(day: &Day) -> [u8; 17] {
     ];
     fill(&mut record[1..5], &[day.year, day.d]);
     fill(&mut record[5..], &readings.map(|reading| reading as u16));
+    record
+}
+
+pub fn crop_record(crop: &Crop) -> [u8; 22] {
+    let mut record = [6; 22];
+    record[1..5].copy_from_slice(&crop.code);
+    fill(&mut record[5..11], &[crop.year, crop.start, crop.full]);
+    record[11..].copy_from_slice(&crop.percentages);
     record
 }
 

@@ -31,6 +31,16 @@ pub struct Day {
     pub wind: i16,
 }
 
+/// A crop: its letters, its year, its start day S and full day F, and the percentages of stages 0 to 10.
+#[derive(Clone, Copy, Debug, PartialEq, Eq)]
+pub struct Crop {
+    pub code: [u8; 4],
+    pub year: u16,
+    pub start: u16,
+    pub full: u16,
+    pub percentages: [u8; 11],
+}
+
 /// The means of the three calendar days before, the nearest first.
 pub type Earlier = [Option<i16>; 3];
 

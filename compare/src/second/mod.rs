@@ -1,7 +1,9 @@
-//! The second implementation: scope document 01 once more, in wide whole numbers and in the document's own order.
-//! It shares nothing with the proved library, so that an error in one of them shows as a difference.
+//! The second implementation: scope document 01 and the change requests that have landed once more, in wide whole numbers
+//! and in the documents' own order. It shares nothing with the proved library, so that an error in one of them shows as a
+//! difference.
 
 pub mod calendar;
+pub mod crop;
 pub mod log;
 pub mod sheet;
 pub mod tables;

@@ -1,10 +1,14 @@
-//! The report of a log as text, as scope document 01 lays it out.
+//! The report of a log as text, as scope document 01 lays it out, with the lines of W1's crop figures.
 use super::log::{answers, Answer};
 use crate::Verdict;
 
+fn inches(figure: u32) -> String {
+    format!("{}.{:04}", figure / 10_000, figure % 10_000)
+}
+
 fn shown(verdict: &Verdict) -> String {
     match verdict {
-        Verdict::Figure(figure) => format!("{}.{:04}", figure / 10_000, figure % 10_000),
+        Verdict::Figure(figure) => inches(*figure),
         Verdict::Refused(number) => format!("R{number}"),
     }
 }
@@ -21,12 +25,16 @@ pub fn report(log: &[u8]) -> String {
         Ok(answers) => answers,
     };
     let mut text = String::from("STN YEAR DAY ET\n");
-    let mut code = String::new();
+    let letters = |code: &[u8]| String::from_utf8_lossy(code).into_owned();
+    let mut station = String::new();
     for answer in &answers {
         match answer {
-            Answer::Station(letters) => code = String::from_utf8_lossy(letters).into_owned(),
+            Answer::Station(code) => station = letters(code),
             Answer::Day { year, d, verdict } => {
-                text += &format!("{code} {year:04} {d:03} {}\n", shown(verdict));
+                text += &format!("{station} {year:04} {d:03} {}\n", shown(verdict));
+            }
+            Answer::Crop { code, figure } => {
+                text += &format!("{} {}\n", letters(code), inches(*figure));
             }
         }
     }
@@ -48,6 +56,17 @@ mod tests {
         assert_eq!(
             report(WORKED),
             "STN YEAR DAY ET\nLIDW 2008 010 R7\nLIDW 2008 011 R7\nLIDW 2008 012 0.0000\n"
+        );
+    }
+
+    #[test]
+    fn a_crop_figure_has_a_line_of_its_own() {
+        let crop = b"\x06BEAN\x07\xd8\x00\x0a\x00\x14\x32\x32\x32\x32\x32\x32\x32\x32\x32\x32\x32";
+        let weather = [700u16, 500, 600, 400, 1_500, 1_000].map(u16::to_be_bytes);
+        let log = [&WORKED[..19], crop, &WORKED[53..58], &weather.concat()].concat();
+        assert_eq!(
+            report(&log),
+            "STN YEAR DAY ET\nLIDW 2008 012 0.0599\nBEAN 0.0300\n"
         );
     }
 
