@@ -2,6 +2,7 @@
 use crate::second::judge;
 use crate::second::sheet::clear_day;
 use crate::{Crop, Day, Earlier, Station, Verdict};
+use std::collections::BTreeSet;
 
 /// The generator splitmix64.
 pub struct Random(u64);
@@ -45,15 +46,20 @@ pub struct Case {
     pub earlier: Earlier,
 }
 
-/// A field of a case, its accepted range, and further values that the rules treat on their own.
-struct Field {
-    set: fn(&mut Case, i64),
+/// A field of a case or of a crop, its accepted range, and further values that the rules treat on their own.
+struct Field<Of> {
+    set: fn(&mut Of, i64),
     low: i64,
     high: i64,
     special: &'static [i64],
 }
 
-const fn field(set: fn(&mut Case, i64), low: i64, high: i64, special: &'static [i64]) -> Field {
+const fn field<Of>(
+    set: fn(&mut Of, i64),
+    low: i64,
+    high: i64,
+    special: &'static [i64],
+) -> Field<Of> {
     Field {
         set,
         low,
@@ -62,19 +68,19 @@ const fn field(set: fn(&mut Case, i64), low: i64, high: i64, special: &'static [
     }
 }
 
-const fn letter(set: fn(&mut Case, i64)) -> Field {
+const fn letter<Of>(set: fn(&mut Of, i64)) -> Field<Of> {
     field(set, b'A' as i64, b'Z' as i64, &[0, b'a' as i64, 255])
 }
 
-const fn coefficient(set: fn(&mut Case, i64)) -> Field {
+const fn coefficient(set: fn(&mut Case, i64)) -> Field<Case> {
     field(set, -32_768, 32_767, &[-1, 0, 1])
 }
 
-const fn temperature(set: fn(&mut Case, i64)) -> Field {
+const fn temperature(set: fn(&mut Case, i64)) -> Field<Case> {
     field(set, -94, 1_291, &[-32_768, -32_767, 32_767, -160, 320])
 }
 
-const FIELDS: [Field; 24] = [
+const FIELDS: [Field<Case>; 24] = [
     letter(|case, value| case.station.code[0] = value as u8),
     letter(|case, value| case.station.code[1] = value as u8),
     letter(|case, value| case.station.code[2] = value as u8),
@@ -135,6 +141,51 @@ const FIELDS: [Field; 24] = [
     temperature(|case, value| case.earlier = [Some(value as i16); 3]),
 ];
 
+const fn percentage<const STAGE: usize>() -> Field<Crop> {
+    field(
+        |crop, value| crop.percentages[STAGE] = value as u8,
+        0,
+        200,
+        &[255],
+    )
+}
+
+const CROP_FIELDS: [Field<Crop>; 18] = [
+    letter(|crop, value| crop.code[0] = value as u8),
+    letter(|crop, value| crop.code[1] = value as u8),
+    letter(|crop, value| crop.code[2] = value as u8),
+    letter(|crop, value| crop.code[3] = value as u8),
+    field(
+        |crop, value| crop.year = value as u16,
+        1_950,
+        2_099,
+        &[0, 65_535],
+    ),
+    field(
+        |crop, value| crop.start = value as u16,
+        1,
+        364,
+        &[32_769, 65_535],
+    ),
+    field(
+        |crop, value| crop.full = value as u16,
+        2,
+        365,
+        &[0, 32_769, 65_535],
+    ),
+    percentage::<0>(),
+    percentage::<1>(),
+    percentage::<2>(),
+    percentage::<3>(),
+    percentage::<4>(),
+    percentage::<5>(),
+    percentage::<6>(),
+    percentage::<7>(),
+    percentage::<8>(),
+    percentage::<9>(),
+    percentage::<10>(),
+];
+
 /// c1 to c5 of LIDW, MALI, KFLW, CEDC and FALN in the published station file.
 const PUBLISHED: [[i16; 5]; 5] = [
     [154, 1_760, 614, -396, 590],
@@ -143,6 +194,10 @@ const PUBLISHED: [[i16; 5]; 5] = [
     [219, 2_450, 437, -305, 460],
     [246, 2_690, 369, -270, 409],
 ];
+
+fn capitals(random: &mut Random) -> [u8; 4] {
+    [0; 4].map(|_: u8| random.between(b'A'.into(), b'Z'.into()) as u8)
+}
 
 fn station(random: &mut Random) -> Station {
     let c = match random.below(8) {
@@ -155,7 +210,7 @@ fn station(random: &mut Random) -> Station {
         }
     };
     Station {
-        code: [0; 4].map(|_: u8| random.between(b'A'.into(), b'Z'.into()) as u8),
+        code: capitals(random),
         c,
         minimum: random.between(50, 200) as u16,
         elevation: random.between(0, 3_000) as u16,
@@ -168,6 +223,35 @@ fn date(random: &mut Random) -> (u16, u16) {
         _ => random.between(1, 365),
     };
     (random.between(1_950, 2_099) as u16, d as u16)
+}
+
+/// A crop in range, mostly of this date's year and with its start near, so that days before, in and after it follow.
+fn crop(random: &mut Random, (year, d): (u16, u16)) -> Crop {
+    let year = match random.below(8) {
+        0 => i64::from(year) + random.pick(&[-1, 1]),
+        _ => year.into(),
+    };
+    let start = match random.below(8) {
+        0 => random.pick(&[1, 2, 363, 364]),
+        _ => (i64::from(d) + random.between(-12, 8)).clamp(1, 364),
+    };
+    let length = match random.below(3) {
+        0 => random.pick(&[1, 2, 3, 4, 364]),
+        1 => random.between(5, 30),
+        _ => random.between(5, 200),
+    };
+    let percentages = match random.below(8) {
+        0 => [0; 11].map(|_: u8| random.pick(&[0, 200])),
+        1 => [0; 11].map(|_: u8| random.pick(&[0, 1, 49, 50, 51, 99, 100, 101, 199, 200])),
+        _ => [0; 11].map(|_: u8| random.between(0, 200) as u8),
+    };
+    Crop {
+        code: capitals(random),
+        year: year.clamp(1_950, 2_099) as u16,
+        start: start as u16,
+        full: (start + length).min(365) as u16,
+        percentages,
+    }
 }
 
 /// Radiation for a clear-day Q: mostly within it, some up to twice it, some at the borders 0.7, 1 and 2.
@@ -421,55 +505,154 @@ fn next_date(random: &mut Random, (year, d): (u16, u16)) -> (u16, u16) {
     }
 }
 
+/// How many records of each kind a log has.
+#[derive(Clone, Copy)]
+struct Records {
+    stations: usize,
+    crops: usize,
+    days: usize,
+}
+
 /// A log with so many records of each kind, all of them in order; its days are those of `case`.
-pub fn log(random: &mut Random, stations: usize, days: usize) -> Vec<u8> {
-    let mut log = Vec::with_capacity(19 * stations + 17 * days);
+fn log(random: &mut Random, records: Records) -> Vec<u8> {
+    let Records {
+        mut stations,
+        mut crops,
+        mut days,
+    } = records;
+    let mut log = Vec::with_capacity(19 * stations + 22 * crops + 17 * days);
     let mut block = station(random);
     let mut today = date(random);
     log.extend(station_record(&block));
-    let mut stations_left = stations - 1;
-    for records_left in (1..stations + days).rev() {
-        if random.below(records_left) < stations_left {
+    stations -= 1;
+    while stations + crops + days > 0 {
+        let next = random.below(stations + crops + days);
+        if next < stations {
             block = station(random);
             today = date(random);
             log.extend(station_record(&block));
-            stations_left -= 1;
+            stations -= 1;
+        } else if next < stations + crops {
+            log.extend(crop_record(&crop(random, today)));
+            crops -= 1;
         } else {
             today = next_date(random, today);
             log.extend(day_record(&case_of(random, block, today).day));
+            days -= 1;
         }
     }
     log
 }
 
-/// A log without a fault of up to so many records.
+/// A log without a fault of up to so many days.
 pub fn sound_log(random: &mut Random, most: usize) -> Vec<u8> {
     let days = random.below(most);
-    let stations = 1 + random.below(days / 8 + 1);
-    log(random, stations, days)
+    let records = Records {
+        stations: 1 + random.below(days / 8 + 1),
+        crops: random.below(days / 6 + 2),
+        days,
+    };
+    log(random, records)
 }
 
-/// A log without a fault that is just so many bytes long, where records of 19 and 17 bytes can make that up.
+/// A log without a fault that is just so many bytes long, where up to fifty crops and records of 19 and 17 bytes can make
+/// that up.
 pub fn log_of_length(random: &mut Random, length: usize) -> Option<Vec<u8>> {
-    let fits = |stations: &usize| (length - 19 * stations).is_multiple_of(17);
-    let stations = (1..=length / 19).find(fits)?;
-    Some(log(random, stations, (length - 19 * stations) / 17))
+    let crops = random.below(51);
+    let rest = length.checked_sub(22 * crops)?;
+    let fits = |stations: &usize| (rest - 19 * stations).is_multiple_of(17);
+    let stations = (1..=rest / 19).find(fits)?;
+    let records = Records {
+        stations,
+        crops,
+        days: (rest - 19 * stations) / 17,
+    };
+    Some(log(random, records))
 }
 
-/// One station and 3,853 days, which is as many as fit, each with a figure: no log has a longer report.
+/// A day of a station that has a figure, whatever the earlier means.
+fn answered(random: &mut Random, station: Station, date: (u16, u16)) -> Day {
+    loop {
+        let Case { day, .. } = ordinary(random, station, date);
+        if let Verdict::Figure(_) = judge(&station, &day, &[None; 3]) {
+            return day;
+        }
+    }
+}
+
+/// One station, and a crop for each year's days from 1 to 365: with eleven crops, 3,839 days fit, each with a figure and
+/// a crop figure. No log has longer answers; nor a longer report, as long as no crop figure has ten inches.
 pub fn answered_log(random: &mut Random) -> Vec<u8> {
     let station = station(random);
-    let answered = |case: &Case| {
-        let verdict = judge(&case.station, &case.day, &[None; 3]);
-        matches!(verdict, Verdict::Figure(_))
-    };
     let mut log = station_record(&station).to_vec();
     let dates = (1_950..=2_099).flat_map(|year| (1..=365).map(move |d| (year, d)));
-    for date in dates.take(3_853) {
-        let case = std::iter::repeat_with(|| ordinary(random, station, date)).find(answered);
-        log.extend(case.iter().flat_map(|case| day_record(&case.day)));
+    for (year, d) in dates.take(3_839) {
+        if d == 1 {
+            log.extend(crop_record(&Crop {
+                year,
+                start: 1,
+                full: 365,
+                ..crop(random, (year, d))
+            }));
+        }
+        log.extend(day_record(&answered(random, station, (year, d))));
     }
     log
+}
+
+/// A log of one crop and days of its year: those of its stages, and those beside its start and its end.
+fn log_about(random: &mut Random, station: Station, crop: &Crop) -> Vec<u8> {
+    let stage = crop.full.saturating_sub(crop.start) / 10;
+    let stages = (0..10).map(|i| crop.start.saturating_add(i * stage));
+    let ends = [crop.start, crop.full].into_iter();
+    let about_ends = ends.flat_map(|d| [d.saturating_sub(1), d, d.saturating_add(1)]);
+    let dates: BTreeSet<u16> = stages.chain(about_ends).collect();
+    let mut log = station_record(&station).to_vec();
+    log.extend(crop_record(crop));
+    for d in dates {
+        log.extend(day_record(&ordinary(random, station, (crop.year, d)).day));
+    }
+    log
+}
+
+/// S and F at their ends, beside them, and far out.
+const SPAN_ENDS: [u16; 13] = [
+    0, 1, 2, 3, 182, 183, 363, 364, 365, 366, 367, 32_768, 65_535,
+];
+
+/// Logs of one crop each. First every value of every field's range, one beyond, and the special ones, the other fields
+/// kept; then S and F at every two ends, whole, cut off in the crop, and without a station.
+pub fn crop_edges(random: &mut Random) -> Vec<Vec<u8>> {
+    let station = station(random);
+    let (year, start) = (random.pick(&[2_007, 2_008]), random.between(2, 163) as u16);
+    let kept = Crop {
+        // A tenth of it is a whole number of days, so that every stage has its day.
+        full: start + 10 * random.between(2, 20) as u16,
+        start,
+        ..crop(random, (year, start))
+    };
+    let mut logs = Vec::new();
+    for field in &CROP_FIELDS {
+        for value in (field.low - 1..=field.high + 1).chain(field.special.iter().copied()) {
+            let mut crop = kept;
+            (field.set)(&mut crop, value);
+            logs.push(log_about(random, station, &crop));
+        }
+    }
+    for (start, full) in SPAN_ENDS.iter().flat_map(|&s| SPAN_ENDS.map(|f| (s, f))) {
+        let year = random.pick(&[1_950, 2_000, 2_007, 2_008, 2_099]);
+        let crop = Crop {
+            year,
+            start,
+            full,
+            ..kept
+        };
+        let whole = log_about(random, station, &crop);
+        logs.push(whole[..19 + 21].to_vec());
+        logs.push(whole[19..].to_vec());
+        logs.push(whole);
+    }
+    logs
 }
 
 /// A log with one to four bytes or stretches changed, put in, taken out or exchanged.
@@ -483,7 +666,7 @@ pub fn damaged(random: &mut Random, mut log: Vec<u8>) -> Vec<u8> {
         match random.below(7) {
             0 => log[at] ^= 1 << random.below(8),
             1 => log[at] = random.bits() as u8,
-            2 => log.insert(at, random.pick(&[0, 1, 2, 3, 255])),
+            2 => log.insert(at, random.pick(&[0, 1, 2, 3, 6, 7, 255])),
             3 => drop(log.remove(at)),
             4 => log.swap(at, other),
             5 => log.truncate(at),
@@ -493,13 +676,13 @@ pub fn damaged(random: &mut Random, mut log: Vec<u8>) -> Vec<u8> {
     log
 }
 
-/// Bytes by chance, with the two kinds more often than others.
+/// Bytes by chance, with the kinds of records more often than others.
 pub fn loose_bytes(random: &mut Random, most: usize) -> Vec<u8> {
     let length = random.below(most);
     (0..length)
         .map(|_| match random.below(3) {
             0 => random.bits() as u8,
-            _ => random.pick(&[1, 2]),
+            _ => random.pick(&[1, 2, 6]),
         })
         .collect()
 }

@@ -3,7 +3,10 @@
 //! The environment variable REPORT_PROGRAM names a report program other than ../target/bin/report.
 use compare::days::{self, Case, Random};
 use compare::routine::{self, Known};
+use compare::second::crop::{self, REASONS};
+use compare::second::log::Judged;
 use compare::{equation, office, second, table_text, Outcome, Verdict};
+use std::fmt::Debug;
 use std::io::{ErrorKind, Write};
 use std::path::{Path, PathBuf};
 use std::process::{Command, ExitCode, Stdio};
@@ -15,6 +18,7 @@ struct Size {
     logs: u64,
     cut_logs: u64,
     full_logs: u64,
+    crop_edges: u64,
 }
 
 const SHORT: Size = Size {
@@ -23,6 +27,7 @@ const SHORT: Size = Size {
     logs: 100_000,
     cut_logs: 20,
     full_logs: 4,
+    crop_edges: 1,
 };
 
 const LONG: Size = Size {
@@ -31,14 +36,17 @@ const LONG: Size = Size {
     logs: 1_500_000,
     cut_logs: 200,
     full_logs: 40,
+    crop_edges: 20,
 };
 
 /// How far a figure is proved to lie from the equation at most, in 0.0001 inch.
 const ALLOWED: f64 = 0.515;
+/// The same for a crop figure and the equation's value times the percentage: twice the above, and its own rounding.
+const CROP_ALLOWED: f64 = 1.53;
 
 const LONGEST_LOG: usize = 65_536;
-/// The header and the lines of 3,853 days with a figure.
-const LONGEST_REPORT: usize = 80_929;
+/// The header and the lines of 3,839 days with a figure and a crop figure.
+const LONGEST_REPORT: usize = 126_703;
 
 fn main() -> ExitCode {
     let start = Instant::now();
@@ -97,19 +105,38 @@ fn refusal_eleven() -> Result<String, String> {
     ))
 }
 
-#[derive(Default)]
-struct Largest {
+/// The largest difference from the equation, and the day that has it.
+struct Largest<Of> {
     difference: f64,
-    case: Option<Case>,
+    day: Option<Of>,
 }
 
-impl Largest {
-    fn take(&mut self, difference: f64, case: &Case) {
-        if difference > self.difference || self.case.is_none() {
+impl<Of> Default for Largest<Of> {
+    fn default() -> Self {
+        Largest {
+            difference: 0.0,
+            day: None,
+        }
+    }
+}
+
+impl<Of: Copy + Debug> Largest<Of> {
+    fn take(&mut self, difference: f64, day: &Of) {
+        if difference > self.difference || self.day.is_none() {
             *self = Largest {
                 difference,
-                case: Some(*case),
+                day: Some(*day),
             };
+        }
+    }
+
+    fn print(&self, what: &str) {
+        println!(
+            "largest difference {what}: {:.6} of 0.0001 inch",
+            self.difference
+        );
+        if let Some(day) = &self.day {
+            println!("  {day:?}");
         }
     }
 }
@@ -134,7 +161,7 @@ struct DayTally {
     above_zero: u64,
     refused: [u64; 13],
     refused_for_earlier: u64,
-    largest: Largest,
+    largest: Largest<Case>,
     opinions: [Opinions; 5],
 }
 
@@ -204,13 +231,7 @@ impl DayTally {
             "  refusal 8 for an earlier mean: {}",
             self.refused_for_earlier
         );
-        println!(
-            "largest difference from the equation: {:.6} of 0.0001 inch",
-            self.largest.difference
-        );
-        if let Some(case) = &self.largest.case {
-            println!("  {case:?}");
-        }
+        self.largest.print("from the equation");
         println!("the published routine, in 0.0001 inch:");
         for (known, what) in Known::ALL {
             let Opinions { count, largest } = self.opinions[known as usize];
@@ -241,9 +262,10 @@ struct LogTally {
     logs: u64,
     accepted: u64,
     calls: u64,
-    refused: [u64; 13],
+    refused: [u64; 14],
     days: u64,
     days_refused: [u64; 13],
+    crops: CropTally,
     reports: ReportTally,
 }
 
@@ -301,21 +323,23 @@ impl LogTally {
         let needed = match &answers {
             Ok(answers) => {
                 self.accepted += 1;
-                self.count_days(answers);
                 answers.len()
             }
-            Err((number, _)) => {
+            Err((number, offset)) => {
                 self.refused[*number as usize] += 1;
+                if *number == 13 {
+                    self.crops.count_refused(&log[*offset..]);
+                }
                 0
             }
         };
-        // Answers are shorter than their records, so the last length is always more than is needed.
+        // A day's answers have at most one byte more than its record, so the last length is always more than is needed.
         for length in [
             0,
             needed.saturating_sub(1),
             needed,
             needed + 1,
-            log.len() + 5,
+            log.len() + log.len() / 17 + 5,
         ] {
             for turned in [false, true] {
                 self.check_buffer(log, &answers, length, turned)
@@ -324,6 +348,14 @@ impl LogTally {
                         format!("answer buffer of {length}: {difference}\n{}", in_hex(log))
                     })?;
             }
+        }
+        // The library's answers are these days' answers, as they were found to be the same.
+        for judged in second::log::judged(log).iter().flatten() {
+            self.days += 1;
+            if let Verdict::Refused(number) = judged.verdict {
+                self.days_refused[number as usize] += 1;
+            }
+            self.crops.check(judged)?;
         }
         Ok(())
     }
@@ -350,23 +382,12 @@ impl LogTally {
         Ok(Read { outcome, buffer })
     }
 
-    fn count_days(&mut self, mut answers: &[u8]) {
-        while let Some(kind) = answers.first() {
-            let length = if *kind == 5 { 5 } else { 9 };
-            self.days += u64::from(*kind != 5);
-            if *kind == 4 {
-                self.days_refused[usize::from(answers[8])] += 1;
-            }
-            answers = &answers[length..];
-        }
-    }
-
     fn print(&self) {
         println!(
             "logs: {}, accepted {}, read into {} buffers",
             self.logs, self.accepted, self.calls
         );
-        for number in [1, 2, 3, 4, 5] {
+        for number in [1, 2, 3, 4, 5, 13] {
             println!("  refusal {number}: {} logs", self.refused[number]);
         }
         println!("  refusal 12: {} buffers", self.refused[12]);
@@ -374,7 +395,105 @@ impl LogTally {
         for number in [6, 7, 8, 9, 10, 11] {
             println!("  refusal {number}: {} days", self.days_refused[number]);
         }
+        self.crops.print();
         self.reports.print();
+    }
+}
+
+/// How a day of an accepted log can stand to the crop in force.
+const STANDINGS: [&str; 7] = [
+    "answered at S",
+    "answered between S and F",
+    "answered at F",
+    "answered before S",
+    "answered after F",
+    "answered in another year",
+    "refused",
+];
+
+#[derive(Default)]
+struct CropTally {
+    /// The logs that were refused with 13 for one reason alone, by the reason.
+    refused: [u64; REASONS.len()],
+    standings: [u64; STANDINGS.len()],
+    figures: u64,
+    /// Those that were a whole number and a half before they were rounded.
+    halves: u64,
+    largest: Largest<Judged>,
+}
+
+impl CropTally {
+    fn count_refused(&mut self, record: &[u8]) {
+        let crop = second::log::crop(&record[1..]);
+        let holding = REASONS.map(|(_, holds)| holds(&crop));
+        let alone = holding.iter().filter(|&&holds| holds).count() == 1;
+        for (met, holds) in self.refused.iter_mut().zip(holding) {
+            *met += u64::from(alone && holds);
+        }
+    }
+
+    /// A day's crop figure against what is promised of it.
+    fn check(&mut self, judged: &Judged) -> Result<(), String> {
+        let Judged {
+            station,
+            day,
+            earlier,
+            crop: Some(crop),
+            verdict,
+        } = judged
+        else {
+            return Ok(());
+        };
+        self.standings[match verdict {
+            Verdict::Refused(_) => 6,
+            _ if day.year != crop.year => 5,
+            _ if day.d > crop.full => 4,
+            _ if day.d < crop.start => 3,
+            _ if day.d == crop.full => 2,
+            _ if day.d > crop.start => 1,
+            _ => 0,
+        }] += 1;
+        let percentage = crop::percentage(crop, day.year, day.d);
+        let (Verdict::Figure(reference), Some((numerator, l)), Some(figure)) =
+            (*verdict, percentage, judged.crop_figure())
+        else {
+            return Ok(());
+        };
+        self.figures += 1;
+        let hundredths = 100 * l;
+        let twice = 2 * i128::from(reference) * numerator;
+        self.halves += u64::from(twice % (2 * hundredths) == hundredths);
+
+        if u64::from(figure) > 2 * u64::from(reference) {
+            return Err(format!(
+                "crop figure {figure} is above twice the figure {reference}\n{judged:?}"
+            ));
+        }
+        let value = 10_000.0 * equation::inches(station, day, earlier) * numerator as f64;
+        let difference = (f64::from(figure) - value / hundredths as f64).abs();
+        if difference > CROP_ALLOWED {
+            return Err(format!(
+                "crop figure {figure} is {difference} from the equation's value times the percentage, \
+                 more than {CROP_ALLOWED}\n{judged:?}"
+            ));
+        }
+        self.largest.take(difference, judged);
+        Ok(())
+    }
+
+    fn print(&self) {
+        for ((reason, _), met) in REASONS.iter().zip(self.refused) {
+            println!("  refusal 13 for {reason} alone: {met} logs");
+        }
+        for (standing, met) in STANDINGS.iter().zip(self.standings) {
+            println!("  with a crop, {standing}: {met} days");
+        }
+        println!(
+            "  crop figures: {}, of them {} rounded up from a half",
+            self.figures, self.halves
+        );
+        self.largest
+            .print("of a crop figure from the equation's value times the percentage");
     }
 }
 
@@ -417,11 +536,11 @@ impl ReportTally {
         let short_line;
         let (kind, report) = match read.outcome {
             Outcome::Written(_) => (0, report),
-            Outcome::Refused(1..=5, _) => (1, report),
-            Outcome::Refused(number, needed) => {
-                short_line = second::refused_line(number, needed);
+            Outcome::Refused(12, needed) => {
+                short_line = second::refused_line(12, needed);
                 (2, &short_line[..])
             }
+            Outcome::Refused(..) => (1, report),
         };
         for (room, (_, text_length)) in TEXT_BUFFERS.iter().enumerate() {
             let text_length = text_length(report.len());
@@ -478,7 +597,7 @@ fn full_logs(random: &mut Random) -> Vec<Vec<u8>> {
         vec![0; LONGEST_LOG + 1],
         vec![1; 140_000],
     ];
-    for after in [0, 1, 2, 255] {
+    for after in [0, 1, 2, 6, 255] {
         logs.push([&full[..], &[after]].concat());
         logs.push([&full[..LONGEST_LOG - 17], &[after]].concat());
     }
@@ -500,6 +619,11 @@ fn compare_logs(size: &Size) -> Result<LogTally, String> {
     }
     for _ in 0..size.full_logs {
         for log in full_logs(&mut random) {
+            tally.check(&log)?;
+        }
+    }
+    for _ in 0..size.crop_edges {
+        for log in days::crop_edges(&mut random) {
             tally.check(&log)?;
         }
     }
@@ -568,19 +692,23 @@ fn sample_logs() -> Result<Vec<Vec<u8>>, String> {
 type IsOfKind = fn(&[u8], &str) -> bool;
 
 /// The kinds of logs that the report program must have been run on.
-const LOG_KINDS: [(&str, IsOfKind); 10] = [
+const LOG_KINDS: [(&str, IsOfKind); 12] = [
     ("refusal 1", |_, report| report.starts_with("REFUSED 1 ")),
     ("refusal 2", |_, report| report.starts_with("REFUSED 2 ")),
     ("refusal 3", |_, report| report.starts_with("REFUSED 3 ")),
     ("refusal 4", |_, report| report.starts_with("REFUSED 4 ")),
     ("refusal 5", |_, report| report.starts_with("REFUSED 5 ")),
+    ("refusal 13", |_, report| report.starts_with("REFUSED 13 ")),
     ("of no bytes", |log, _| log.is_empty()),
     ("of 65536 bytes, accepted", |log, report| {
         log.len() == LONGEST_LOG && !report.starts_with("REFUSED")
     }),
     ("of 65537 bytes", |log, _| log.len() == LONGEST_LOG + 1),
     ("longer", |log, _| log.len() > LONGEST_LOG + 1),
-    ("with a report of 80929 bytes", |_, report| {
+    ("with a crop figure", |_, report| {
+        report.lines().any(|line| line.split(' ').count() == 2)
+    }),
+    ("with a report of 126703 bytes", |_, report| {
         report.len() == LONGEST_REPORT
     }),
 ];
@@ -636,11 +764,11 @@ fn compare_program() -> Result<ProgramTally, String> {
     Ok(tally)
 }
 
-/// Fails if a refusal that can be given was never met, a kind of report never written to a kind of text buffer, or the
-/// report program never run on a kind of log.
+/// Fails if a refusal that can be given was never met, a day never stood in some way to a crop, a kind of report was never
+/// written to a kind of text buffer, or the report program never run on a kind of log.
 fn all_reached(days: &DayTally, logs: &LogTally, program: &ProgramTally) -> Result<(), String> {
     let of_days = [3, 6, 7, 8, 9, 10].map(|number| (number, "days alone", days.refused[number]));
-    let of_logs = [1, 2, 3, 4, 5, 12].map(|number| (number, "logs", logs.refused[number]));
+    let of_logs = [1, 2, 3, 4, 5, 12, 13].map(|number| (number, "logs", logs.refused[number]));
     let in_logs =
         [6, 7, 8, 9, 10].map(|number| (number, "days in logs", logs.days_refused[number]));
     let for_earlier = [(8, "earlier means", days.refused_for_earlier)];
@@ -652,6 +780,22 @@ fn all_reached(days: &DayTally, logs: &LogTally, program: &ProgramTally) -> Resu
     for (number, of, met) in all {
         if *met == 0 {
             return Err(format!("refusal {number} of {of} was never reached"));
+        }
+    }
+    let crops = &logs.crops;
+    for ((reason, _), met) in REASONS.iter().zip(crops.refused) {
+        if met == 0 {
+            return Err(format!("refusal 13 for {reason} alone was never reached"));
+        }
+    }
+    for (standing, met) in STANDINGS.iter().zip(crops.standings) {
+        if met == 0 {
+            return Err(format!("no day with a crop was {standing}"));
+        }
+    }
+    for (what, met) in [("", crops.figures), (" that was a half", crops.halves)] {
+        if met == 0 {
+            return Err(format!("no crop figure{what} was met"));
         }
     }
     for (kind, by_room) in REPORTS.iter().zip(logs.reports.0) {
@@ -666,7 +810,7 @@ fn all_reached(days: &DayTally, logs: &LogTally, program: &ProgramTally) -> Resu
             return Err(format!("the report program met no log {kind}"));
         }
     }
-    println!("every refusal from 1 to 12 was reached, but for 11, which cannot be given");
+    println!("every refusal from 1 to 13 was reached, but for 11, which cannot be given");
     println!(
         "every kind of report met every text buffer, and the report program every kind of log"
     );

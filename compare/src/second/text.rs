@@ -45,6 +45,7 @@ pub fn report(log: &[u8]) -> String {
 mod tests {
     use super::*;
     use crate::days::{answered_log, Random};
+    use crate::second::answer_bytes;
 
     const WORKED: &[u8] = b"\x01LIDW\x00\x9a\x06\xe0\x02\x66\xfe\x74\x02\x4e\x00\x64\x01\xf1\
         \x02\x07\xd8\x00\x0a\x00\xc8\x00\xc8\x00\xc8\x00\xc8\x00\x00\x80\x00\
@@ -78,9 +79,11 @@ mod tests {
     }
 
     #[test]
-    fn the_longest_report() {
+    fn the_longest_answers_and_the_longest_report() {
         let log = answered_log(&mut Random::new(4));
-        assert_eq!((log.len(), report(&log).len()), (65_520, 80_929));
+        let answers = answer_bytes(&log).map(|answers| answers.len());
+        let lengths = (log.len(), answers, report(&log).len());
+        assert_eq!(lengths, (65_524, Ok(69_107), 126_703));
     }
 
     #[test]
