@@ -1,10 +1,10 @@
 //! The speed of the proved library, in one run and as ratios: a log read whole, and a day judged alone, against the same
-//! sheet in plain Rust and against the published routine's floating-point formulas; and a log's report against the log
-//! read alone. Every answer that is timed is checked first; a wrong one is the only reason for a failing exit status.
+//! sheet in plain Rust and against the published routine's floating-point formulas; a log's report against the log read
+//! alone; and a log with a crop all year against the same log without. Every answer that is timed is checked first; a wrong one is the only reason for a failing exit status.
 use compare::days::{self, Case, Random};
 use compare::office::{self, Handed};
 use compare::second::{self, calendar, log, sheet};
-use compare::{plain, Day, Earlier, Outcome, Station, Verdict};
+use compare::{plain, Crop, Day, Earlier, Outcome, Station, Verdict};
 use std::fmt;
 use std::hint::black_box;
 use std::process::ExitCode;
@@ -28,12 +28,14 @@ fn main() -> ExitCode {
     );
     let logs = LOG_SIZES.map(|size| Log::of_size(size, stations[0], &mut random));
     let bad_dates = bad_dates(&stations[0], &mut random);
+    let crops = CropLogs::new(&stations[0], &mut random);
 
     println!("Processor: {}", processor());
     let checked = check_random(&mut random)
         .and_then(|report| check_timed(&timed).map(|()| report))
         .and_then(|report| logs.iter().try_for_each(Log::check).map(|()| report))
-        .and_then(|report| check_report(&bad_dates).map(|()| report));
+        .and_then(|report| check_report(&bad_dates).map(|()| report))
+        .and_then(|report| crops.check().map(|()| report));
     match checked {
         Ok(report) => println!("{report}"),
         Err(wrong) => {
@@ -44,6 +46,7 @@ fn main() -> ExitCode {
     let mut ratios = measure_days(&timed);
     ratios.extend(measure_logs(&logs));
     ratios.push(measure_bad_dates(&bad_dates));
+    ratios.extend(measure_crops(&crops));
     println!("\n{:<52}{:>8}  to reach", "Ratio", "measured");
     for ratio in ratios {
         println!("{ratio}");
@@ -382,6 +385,51 @@ fn bad_dates(station: &Station, random: &mut Random) -> Vec<u8> {
     bytes
 }
 
+/// A full log with a crop for each year, so that every day has a crop figure, and the same log without the crops.
+struct CropLogs {
+    with: Vec<u8>,
+    without: Vec<u8>,
+    days: usize,
+}
+
+impl CropLogs {
+    fn new(station: &Station, random: &mut Random) -> Self {
+        let with = days::station_record(station).to_vec();
+        let mut logs = CropLogs {
+            without: with.clone(),
+            with,
+            days: 0,
+        };
+        for (year, d) in (1_950..=2_099).flat_map(|year| (1..=365).map(move |d| (year, d))) {
+            if d == 1 {
+                logs.with.extend(days::crop_record(&Crop {
+                    code: *b"BEAN",
+                    year,
+                    start: 1,
+                    full: 365,
+                    percentages: [20, 22, 30, 45, 65, 90, 105, 107, 95, 60, 30],
+                }));
+            }
+            let record = days::day_record(&weather(random, station, year, d));
+            if logs.with.len() + record.len() > LOG_SIZES[LOG_SIZES.len() - 1] {
+                break;
+            }
+            logs.with.extend(record);
+            logs.without.extend(record);
+            logs.days += 1;
+        }
+        logs
+    }
+
+    fn check(&self) -> Result<(), String> {
+        // The header, and for each day 21 bytes with its figure and 12 with the crop's.
+        if second::report(&self.with).len() != 16 + (21 + 12) * self.days {
+            return Err("a day of a timed log has no crop figure".into());
+        }
+        check_report(&self.with).and_then(|()| check_report(&self.without))
+    }
+}
+
 fn handed(
     Case {
         station,
@@ -686,23 +734,62 @@ fn measure_logs(logs: &[Log]) -> Vec<Ratio> {
     ratios
 }
 
+/// The best times of `read_log` and of the report, for each of these logs in turn.
+fn read_and_report<const LOGS: usize>(logs: [&[u8]; LOGS]) -> [(f64, f64); LOGS] {
+    let mut ways: Vec<Box<dyn FnMut() + '_>> = Vec::new();
+    for bytes in logs {
+        let mut answers = vec![0; log::answer_bytes(bytes).map_or(0, |answers| answers.len())];
+        let mut reported = answers.clone();
+        let mut text = vec![0; second::report(bytes).len()];
+        ways.push(Box::new(move || {
+            black_box(office::read_log(black_box(bytes), black_box(&mut answers)));
+        }));
+        ways.push(Box::new(move || {
+            let (answers, text) = (black_box(&mut reported), black_box(&mut text));
+            black_box(office::report(black_box(bytes), answers, text));
+        }));
+    }
+    let mut contenders: Vec<&mut dyn FnMut()> =
+        ways.iter_mut().map(|way| &mut **way as _).collect();
+    let times = best(&mut contenders);
+    std::array::from_fn(|place| (times[2 * place], times[2 * place + 1]))
+}
+
 /// The report of a full log of bad dates against the log read alone.
 fn measure_bad_dates(bytes: &[u8]) -> Ratio {
-    let report = second::report(bytes);
-    let mut answers = vec![0; log::answer_bytes(bytes).map_or(0, |answers| answers.len())];
-    let mut reported = answers.clone();
-    let mut text = vec![0; report.len()];
-    let mut read = || {
-        black_box(office::read_log(black_box(bytes), black_box(&mut answers)));
-    };
-    let mut write = || {
-        let (answers, text) = (black_box(&mut reported), black_box(&mut text));
-        black_box(office::report(black_box(bytes), answers, text));
-    };
-    let times = best(&mut [&mut read, &mut write]);
+    let [(read, report)] = read_and_report([bytes]);
     ratio(
         "report / read_log, 64 KiB of bad dates",
-        times[1] / times[0],
+        report / read,
         Wanted::Nothing,
     )
+}
+
+fn measure_crops(crops: &CropLogs) -> [Ratio; 3] {
+    let [with, without] = read_and_report([&crops.with, &crops.without]);
+    println!(
+        "\n{:<52}{:>12}{:>10}",
+        format!("{} days, with a crop and without", crops.days),
+        "us a log",
+        "ns a day"
+    );
+    let named = [
+        ("read_log, each day with a crop figure", with.0),
+        ("read_log of the same days without the crops", without.0),
+        ("the report, each day with a crop figure", with.1),
+        ("the report of the same days without the crops", without.1),
+    ];
+    for (name, time) in named {
+        println!(
+            "{name:<52}{:>12.2}{:>10.1}",
+            time / 1e3,
+            time / crops.days as f64
+        );
+    }
+    [
+        ("read_log with a crop / without", with.0 / without.0),
+        ("report with a crop / without", with.1 / without.1),
+        ("report / read_log, with a crop", with.1 / with.0),
+    ]
+    .map(|(name, measured)| ratio(name, measured, Wanted::Nothing))
 }
