@@ -5,6 +5,8 @@ import struct
 MISSING = -32768
 LIDW = (b"LIDW", (154, 1760, 614, -396, 590), 100, 497)
 HIGH = (b"HIGH", (180, 1900, 600, -390, 580), 120, 1850)
+# Little water while the plants are small, most where they cover the ground, and less as they dry.
+BEAN = (b"BEAN", 2008, 140, 260, (20, 22, 30, 45, 65, 90, 105, 107, 95, 60, 30))
 
 
 def station(code, constants, minimum, elevation):
@@ -13,6 +15,10 @@ def station(code, constants, minimum, elevation):
 
 def day(year, d, maximum, minimum, mean, dewpoint, radiation, wind):
     return bytes([2]) + struct.pack(">HH6h", year, d, maximum, minimum, mean, dewpoint, radiation, wind)
+
+
+def crop(code, year, start, full, percentages):
+    return bytes([6]) + code + struct.pack(">HHH11B", year, start, full, *percentages)
 
 
 def season(year, first, last, warmth):
@@ -39,5 +45,6 @@ worked = (station(*LIDW), day(2008, 10, *same(200, MISSING)), day(2008, 11, *sam
 
 write("worked.log", *worked)
 write("season.log", station(*LIDW), *season(2008, 105, 288, 0))
+write("crop_season.log", station(*LIDW), crop(*BEAN), *season(2008, 130, 270, 0))
 write("two_stations.log", station(*LIDW), *season(2008, 180, 186, 0), station(*HIGH), *season(2008, 180, 186, -120))
 write("cut_off.log", b"".join(worked)[:-3])
