@@ -25,14 +25,18 @@ enum {
     /* A log refused as too long, with room to spare. */
     LOG_ROOM = LONGEST_LOG + 2 * PAGE,
     ANSWER_ROOM = 32 * PAGE,
-    LONGEST_REPORT = 80929,
-    /* Room for the longest report, and for some bytes more. */
-    TEXT_ROOM = 20 * PAGE,
+    /* No report is longer. */
+    REPORT_LIMIT = 130984,
+    /* Room for every report, and for some bytes more. */
+    TEXT_ROOM = 33 * PAGE,
     STATION_LENGTH = 19,
     DAY_LENGTH = 17,
+    CROP_LENGTH = 22,
     STATION_ANSWER_LENGTH = 5,
-    DAY_ANSWER_LENGTH = 9,
+    /* A day's answer and a crop's. */
+    FIGURE_ANSWER_LENGTH = 9,
     TOO_SHORT_A_BUFFER = 12,
+    BAD_CROP = 13,
     INPUTS_A_PROCESS = 2000,
     /* The two descriptors on which AFL++ speaks to a fork server. */
     CONTROL = 198,
@@ -94,24 +98,68 @@ static void judge_first_day(const uint8_t *station, const uint8_t *day, const ui
     require(number(answer + 5, 4) == verdict, "a block's first day is answered as when handed in alone");
 }
 
+/* A crop record, taken apart. */
+struct crop {
+    const uint8_t *letters, *percentages;
+    uint16_t year, start, full;
+};
+
+static struct crop crop_of(const uint8_t *record) {
+    return (struct crop){record + 1, record + 11, plain(record + 5), plain(record + 7), plain(record + 9)};
+}
+
+static bool in_range(struct crop crop) {
+    bool good = crop.year >= 1950 && crop.year <= 2099 && crop.start >= 1 && crop.full > crop.start && crop.full <= 365;
+    for (int i = 0; i < 4; i++) {
+        good = good && crop.letters[i] >= 'A' && crop.letters[i] <= 'Z';
+    }
+    for (int i = 0; i <= 10; i++) {
+        good = good && crop.percentages[i] <= 200;
+    }
+    return good;
+}
+
+/* The crop's answer after that of a day, if the day has one; returns its length. */
+static size_t check_crop_answer(struct crop crop, const uint8_t *day, const uint8_t *answer) {
+    uint16_t d = plain(day + 3);
+    if (answer[0] != 3 || plain(day + 1) != crop.year || d < crop.start || d > crop.full) {
+        return 0;
+    }
+    uint64_t length = crop.full - crop.start, tens = 10 * (d - crop.start);
+    uint64_t i = tens / length, r = tens % length;
+    /* At the last day, stage 10 stands alone. */
+    uint64_t percentage = crop.percentages[i] * (length - r) + (r == 0 ? 0 : crop.percentages[i + 1] * r);
+    uint64_t figure = (2 * percentage * number(answer + 5, 4) + 100 * length) / (200 * length);
+    const uint8_t *own = answer + FIGURE_ANSWER_LENGTH;
+    require(own[0] == 7 && memcmp(own + 1, crop.letters, 4) == 0, "a crop's answer begins with its kind and letters");
+    require(number(own + 5, 4) == figure, "a crop figure is the percentage of the day's, to nearest");
+    return FIGURE_ANSWER_LENGTH;
+}
+
 /* The answers stand in log order and fill the length exactly. */
 static void check_answers(const uint8_t *log, size_t log_length, const uint8_t *answers, size_t length) {
-    const uint8_t *end = log + log_length, *station = NULL, *answer = answers;
+    const uint8_t *end = log + log_length, *station = NULL, *crop = NULL, *answer = answers;
     bool first = false;
     while (log < end) {
         if (log[0] == 1) {
             require(answer[0] == 5 && memcmp(answer + 1, log + 1, 4) == 0, "a station's answer is its code");
             station = log;
+            crop = NULL;
             first = true;
             log += STATION_LENGTH;
             answer += STATION_ANSWER_LENGTH;
+        } else if (log[0] == 6) {
+            require(in_range(crop_of(log)), "an accepted log's crops are in range");
+            crop = log;
+            log += CROP_LENGTH;
         } else {
             if (first) {
                 judge_first_day(station, log, answer);
             }
             first = false;
+            size_t after = crop == NULL ? 0 : check_crop_answer(crop_of(crop), log, answer);
             log += DAY_LENGTH;
-            answer += DAY_ANSWER_LENGTH;
+            answer += FIGURE_ANSWER_LENGTH + after;
         }
     }
     require((size_t)(answer - answers) == length, "the length is that of the answers");
@@ -154,7 +202,7 @@ static uint64_t run(const uint8_t *log, size_t log_length, struct buffer answers
     return returned;
 }
 
-/* The text is the line of a refused log, or the header and a line for each day's answer. */
+/* The text is the line of a refused log, or the header and a line for each answer but a station's. */
 static void check_text(const uint8_t *text, size_t length, uint64_t read, const uint8_t *answers) {
     static const char header[] = "STN YEAR DAY ET\n";
     if (refusal(read) != 0) {
@@ -166,13 +214,13 @@ static void check_text(const uint8_t *text, size_t length, uint64_t read, const 
     size_t lines = 1, ended = 0;
     for (const uint8_t *answer = answers; answer < answers + value(read);) {
         lines += answer[0] != 5;
-        answer += answer[0] == 5 ? STATION_ANSWER_LENGTH : DAY_ANSWER_LENGTH;
+        answer += answer[0] == 5 ? STATION_ANSWER_LENGTH : FIGURE_ANSWER_LENGTH;
     }
     for (size_t i = 0; i < length; i++) {
         ended += text[i] == '\n';
     }
     require(length >= sizeof header - 1 && memcmp(text, header, sizeof header - 1) == 0, "a report begins with the header");
-    require(text[length - 1] == '\n' && ended == lines, "a report has a line for each day's answer");
+    require(text[length - 1] == '\n' && ended == lines, "a report has a line for each figure and refusal");
 }
 
 /* One report, for a log that was just read into `answers` with the result `read`. Returns what the library returned. */
@@ -242,7 +290,11 @@ static void try_input(const uint8_t *input, size_t size, bool in_heap) {
     uint8_t *end = answer_region.shown + answer_region.size;
     uint64_t unlent = fuortwem_read_log(last_log, log_length, end, 0);
     bool sound = refusal(unlent) == 0 || refusal(unlent) == TOO_SHORT_A_BUFFER;
-    require(refusal(unlent) <= 5 || refusal(unlent) == TOO_SHORT_A_BUFFER, "a log's refusal is 1 to 5 or 12");
+    require(refusal(unlent) <= 5 || sound || refusal(unlent) == BAD_CROP, "a log's refusal is 1 to 5, 12 or 13");
+    if (refusal(unlent) == BAD_CROP) {
+        const uint8_t *record = last_log + value(unlent);
+        require(record[0] == 6 && !in_range(crop_of(record)), "13 is for a crop out of range");
+    }
     require((refusal(unlent) == 0) == (log_length == 0), "without a buffer only the empty log is accepted");
 
     size_t needed = sound ? value(unlent) : 0;
@@ -259,7 +311,7 @@ static void try_input(const uint8_t *input, size_t size, bool in_heap) {
 
     uint64_t too_short = report(last_log, log_length, last, expected, placed(text_region, 0, true), 2);
     size_t text_needed = value(too_short);
-    require(refusal(too_short) == TOO_SHORT_A_BUFFER && text_needed <= LONGEST_REPORT, "a report has 1 to 80,929 bytes");
+    require(refusal(too_short) == TOO_SHORT_A_BUFFER && text_needed <= REPORT_LIMIT, "a report has 1 to 130,984 bytes");
     returned = report(last_log, log_length, last, expected, placed(text_region, text_needed - 1, true), 3);
     require(returned == too_short, "one byte less than a report needs is too short");
     struct buffer text = placed(text_region, text_needed, true);
