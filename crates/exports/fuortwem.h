@@ -5,10 +5,10 @@
  * Each function returns two numbers of 32 bits in one of 64: fuortwem_number takes out the high half, fuortwem_value the low one.
  * The high half is the number of the refusal, or 0 if there is none. The numbers:
  *
- *    1   log: a record's kind is neither 1 nor 2
+ *    1   log: a record's kind is none of 1, 2 and 6
  *    2   log: it ends inside a record
  *    3   log or day alone: a field of the station is out of range: a letter of the code, the clear-day minimum or the elevation
- *    4   log: a day before any station
+ *    4   log: a day or a crop before any station
  *    5   log: it is over 65,536 bytes
  *    6   day: no date of the years 1950 to 2099 or, in a log, not after the block's last good date
  *    7   day: one of the six readings is missing
@@ -17,6 +17,7 @@
  *   10   day: radiation above twice that of a clear day
  *   11   day: the slope of the vapour pressure curve and the psychrometric constant, D + g, are below 1 (cannot happen with readings in range)
  *   12   log: the answer buffer is shorter than needed; report: the text buffer is
+ *   13   log: a field of a crop is out of range: a letter, the year, a percentage, the start day or the full day
  *
  * No function allocates or keeps anything from one call to the next: all may be called from several threads at once. */
 #ifndef FUORTWEM_H
@@ -66,30 +67,39 @@ uint64_t fuortwem_judge(
     int16_t maximum, int16_t minimum, int16_t mean, int16_t dewpoint, int16_t radiation, int16_t wind,
     uint8_t has_one, int16_t one, uint8_t has_two, int16_t two, uint8_t has_three, int16_t three);
 
-/* Reads a log to its end and writes an answer for each record to the front of the answer buffer, in log order, or refuses the log.
+/* Reads a log to its end and writes the answers to its stations and days to the front of the answer buffer, in log order, or refuses the log.
  *
  * Returned, for every log and every length of the buffer:
  *
- *   number 0            the log is accepted: the value is the length written, and the bytes after it stay as they were
- *   number 1, 2, 3, 4   the first record with a fault: the value is the offset in the log of its kind byte
- *   number 5            the log is too long: the value is 0
- *   number 12           the answer buffer is too short: the value is the length needed
+ *   number 0                the log is accepted: the value is the length written, and the bytes after it stay as they were
+ *   number 1, 2, 3, 4, 13   the first record with a fault: the value is the offset in the log of its kind byte
+ *   number 5                the log is too long: the value is 0
+ *   number 12               the answer buffer is too short: the value is the length needed
  *
- * 5 is looked for first, then the records from the front, each for 1, 2, 3 and 4 in this order, then 12.
+ * 5 is looked for first, then the records from the front, each for 1, 2, 3, 4 and 13 in this order, then 12.
  * A refused log leaves every byte of the answer buffer as it was. Refusals 6 to 11 of a day stand in its answer, and the log goes on.
  *
  * In the log and in the answers, numbers of two or four bytes have the high byte first. A record of the log:
  *
  *   kind 1, station, 19 bytes with the kind: code (4 bytes), c1 to c5 (2 each, signed), clear-day minimum (2), elevation (2)
  *   kind 2, day, 17 bytes: year (2), d (2), maximum, minimum, mean, dew point, radiation, wind (2 each, signed)
+ *   kind 6, crop, 22 bytes: letters (4), year (2), start day S (2), full day F (2), percentages of stages 0 to 10 (1 each)
+ *
+ * A crop's letters are A to Z; its year is 1950 to 2099; S is at least 1, F above S and at most 365; a percentage is at most 200. It holds
+ * for the days after it up to the next crop or the next station.
  *
  * An answer, all numbers unsigned:
  *
  *   kind 5, station, 5 bytes: code (4)
  *   kind 3, day with a figure, 9 bytes: year (2), d (2), figure in 0.0001 inch (4)
  *   kind 4, day refused, 9 bytes: year (2), d (2), the refusal's number, 6 to 11 (4)
+ *   kind 7, crop figure, 9 bytes: the crop's letters (4), figure in 0.0001 inch (4)
  *
- * A buffer of 34,682 bytes is enough for every log.
+ * Kind 7 stands right after the kind 3 of a day of the crop's year from S to F, both included. The figure is the day's times a percentage
+ * over 100, rounded to nearest, halves up: stage 0 stands at S, stage 10 at F, the others at equal steps between them, and between two
+ * stages the percentage is read linearly. A crop has no answer of its own.
+ *
+ * A buffer of 69,341 bytes is enough for every log.
  *
  * Asked of the caller: `log` may be read for `log_length` bytes, and `answers` read and written for `answers_length` bytes, during the whole
  * call; the two do not overlap; nothing else writes to the log or touches the answers meanwhile; neither pointer is NULL, even where its
@@ -108,12 +118,13 @@ uint64_t fuortwem_read_log(const uint8_t *log, size_t log_length, uint8_t *answe
  *
  *   number 0    the line "STN YEAR DAY ET", then a line for each day in log order, such as "LIDW 2008 012 0.0000": the station's code, the
  *               year with at least four digits, the day of the year with at least three, and the inches or, for a day that is refused,
- *               R and the number, such as "R7"; an empty log has the first line alone
+ *               R and the number, such as "R7"; after the line of a day with a crop figure, a line such as "BEAN 0.2814": the crop's
+ *               letters and the inches; an empty log has the first line alone
  *   another     one line, "REFUSED", the number and the value, such as "REFUSED 2 53"; so too where the answer buffer is too short, such
  *               as "REFUSED 12 32"
  *
- * A call with a text length of 0 gives the length needed, for no report is empty. An answer buffer of 34,682 bytes and a text buffer of
- * 80,929 are enough for every log.
+ * A call with a text length of 0 gives the length needed, for no report is empty. An answer buffer of 69,341 bytes and a text buffer of
+ * 130,984 are enough for every log.
  *
  * Asked of the caller: what fuortwem_read_log asks for the log and the answers, and the same as for the answers for `text` and
  * `text_length`; no two of the three overlap. */
