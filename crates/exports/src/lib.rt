@@ -3,6 +3,7 @@
 ghost use mathlib.Core.Path.{_≡_};
 ghost use lib.ListN.{length};
 ghost use Rattle.day.specs.Judgement.{judged};
+ghost use Rattle.log.specs.CropFigures.{CropFiguresOwed};
 ghost use Rattle.log.specs.Demand.{FiguresOwed};
 ghost use Rattle.log.specs.Log.{outcomeOf, bufferAfter};
 ghost use Rattle.text.specs.Report.{reportOf, printedIn, textOver};
@@ -111,6 +112,7 @@ pub extern "C" fn fuortwem_read_log(log: &[u8], answers: &mut [u8]) -> u64
     ensures { λ r. ⌜ saidBy r ≡ outcomeSaid (outcomeOf (now (log .entry)) (length (now (answers .entry)))) ⌝ }
     ensures { λ _. ⌜ now (answers .exit) ≡ bufferAfter (now (log .entry)) (now (answers .entry)) ⌝ }
     ensures { λ _. ⌜ FiguresOwed (now (log .entry)) (now (answers .entry)) (now (answers .exit)) ⌝ }
+    ensures { λ _. ⌜ CropFiguresOwed (now (log .entry)) (now (answers .entry)) (now (answers .exit)) ⌝ }
 {
     match log::read_log(log, answers) {
         Outcome::Written(n) => packed(0, n as u32),
@@ -126,6 +128,7 @@ pub extern "C" fn fuortwem_report(log: &[u8], answers: &mut [u8], text: &mut [u8
     ensures { λ _. ⌜ now (text .exit) ≡ textOver (now (text .entry)) (reportOf (now (log .entry)) (length (now (answers .entry)))) ⌝ }
     ensures { λ _. ⌜ now (answers .exit) ≡ bufferAfter (now (log .entry)) (now (answers .entry)) ⌝ }
     ensures { λ _. ⌜ FiguresOwed (now (log .entry)) (now (answers .entry)) (now (answers .exit)) ⌝ }
+    ensures { λ _. ⌜ CropFiguresOwed (now (log .entry)) (now (answers .entry)) (now (answers .exit)) ⌝ }
 {
     match text::write_report(log, answers, text) {
         Printed::Written(n) => packed(0, n as u32),

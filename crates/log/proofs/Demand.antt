@@ -1,5 +1,5 @@
 -- Demand 3, entire: what is read of a log, and what is judged of a day handed in alone, meet it. The theorem is `demand-met`. Assumes nothing.
-use mathlib.Core.Path.{_≡_, refl, sym, ap, _∙_, subst}
+use mathlib.Core.Path.{_≡_, refl, ap, _∙_}
 use mathlib.Core.Bool.{not, false}
 use mathlib.Core.List.{List}
 use Prim.Native.Nat.{ℕ}
@@ -15,8 +15,7 @@ use Rattle.day.specs.declared.Verdict.the-variants.{Figure}
 use Rattle.day.proofs.DayBound.{judged-within-bound}
 use Rattle.answers.specs.Answers.{dayAnswer, answerBytes}
 use Rattle.log.specs.Demand.{AnsweredLog, AnsweredDay, FigureAt, FiguresOwed, EveryFigureWithinBound}
-use Rattle.log.specs.Log.{bufferAfter, Read}
-use Rattle.log.specs.declared.Outcome.{Outcome}
+use Rattle.log.specs.Log.{bufferAfter}
 use Rattle.log.proofs.Days.{answer-at, good-in-calendar}
 use Rattle.log.proofs.Stations.{station-sound, station-constants}
 
@@ -32,7 +31,7 @@ module _ {s : List ℕ} {i : ℕ} {st : Station} {x : Day} {earlier : Earlier} {
   none-holds AboveClear = d .others AboveClear tt
   none-holds SumBelowOne = d .others SumBelowOne tt
 
-  answered : Answered st x earlier
+  pub answered : Answered st x earlier
   unfolding Answered
   answered = none-holds
 
@@ -51,7 +50,3 @@ log-within-bound s buffer log i place st x earlier d = figure-at d buffer log
 pub demand-met : EveryFigureWithinBound bufferAfter judged
 unfolding EveryFigureWithinBound
 demand-met = (log-within-bound, judged-within-bound)
-
--- a reader that leaves what is owed for the log leaves the figures that are owed
-pub with-figures : {s buffer after : List ℕ} {o : Outcome} → Read s buffer o after → Read s buffer o after × FiguresOwed s buffer after
-with-figures {s} {buffer} h = (h, subst (FiguresOwed s buffer) (sym (h .written)) (log-within-bound s buffer))

@@ -10,6 +10,7 @@ pub mod HandedBack
 pub mod Stations
 pub mod Days
 pub mod Demand
+pub mod CropFigures
 pub mod Sample
 pub mod WorkedLog
 pub mod Steps

@@ -3,5 +3,6 @@ pub mod History
 pub mod Log
 pub mod Days
 pub mod Demand
+pub mod CropFigures
 pub mod Carried
 pub mod Passes

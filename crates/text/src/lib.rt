@@ -3,6 +3,7 @@ ghost use mathlib.Core.List.{List, _++_};
 ghost use mathlib.Core.Path.{_≡_};
 ghost use Prim.Native.Nat.{_≤_};
 ghost use lib.ListN.{length};
+ghost use Rattle.log.specs.CropFigures.{CropFiguresOwed};
 ghost use Rattle.log.specs.Demand.{FiguresOwed};
 ghost use Rattle.log.specs.Log.{longestAnswers, bufferAfter};
 ghost use Rattle.answers.specs.declared.Answer.{Answer as Answered};
@@ -60,6 +61,7 @@ pub fn write_report(log: &[u8], answers: &mut [u8], text: &mut [u8]) -> Printed
     ensures { λ r. ⌜ Prints (reportOf (now (log .entry)) (length (now (answers .entry)))) (now (text .entry)) r (now (text .exit)) ⌝ }
     ensures { λ _. ⌜ now (answers .exit) ≡ bufferAfter (now (log .entry)) (now (answers .entry)) ⌝ }
     ensures { λ _. ⌜ FiguresOwed (now (log .entry)) (now (answers .entry)) (now (answers .exit)) ⌝ }
+    ensures { λ _. ⌜ CropFiguresOwed (now (log .entry)) (now (answers .entry)) (now (answers .exit)) ⌝ }
 {
     match read_log(log, answers) {
         Outcome::Refused(number, value) => print_refused(number, value, text),
