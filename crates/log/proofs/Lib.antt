@@ -13,6 +13,8 @@ pub mod Demand
 pub mod CropFigures
 pub mod Sample
 pub mod WorkedLog
+pub mod WorkedCrop
 pub mod Steps
 pub mod OutcomeSize
 pub mod Longest
+pub mod WithoutCrops

@@ -4,5 +4,6 @@ pub mod Log
 pub mod Days
 pub mod Demand
 pub mod CropFigures
+pub mod WithoutCrops
 pub mod Carried
 pub mod Passes

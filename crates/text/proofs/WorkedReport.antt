@@ -1,15 +1,22 @@
 -- Reports worked out from the log's bytes to the last newline: document 01's, with its four lines; the same log cut off; the same with an answer
--- buffer that is one byte too short; and that of a log of 0 bytes. Assumes nothing.
+-- buffer that is one byte too short; that of a log of 0 bytes; and that of a log with a crop. Assumes nothing.
 use mathlib.Core.Path.{_≡_, refl}
 use mathlib.Core.List.{List, [], _∷_, _++_}
-use lib.ListN.{take}
+use mathlib.Core.Bool.{cond}
+use lib.Dec.{ltb}
+use lib.ListN.{length, take}
+use Rattle.answers.specs.Answers.{bytesOf}
+use Rattle.crops.specs.Crop.{badCrop}
 use Rattle.records.specs.Bytes.{wordAt, signedOf, signedAt}
-use Rattle.records.specs.Record.{stationAt, dayAt, recordAt}
+use Rattle.records.specs.Record.{stationAt, dayAt, cropAt, recordAt}
 use Rattle.log.specs.Log.{readFrom, readingOf, outcomeOf}
 use Rattle.log.proofs.Sample.{sample}
+use Rattle.log.specs.declared.Outcome.the-variants as outcome
 use Rattle.log.proofs.WorkedLog.{worked}
-use Rattle.text.specs.Report.{linesOf, reportOf, wholeReport}
-use Rattle.lines.specs.Text.{newline, leading, digits, padded, inches, verdictText, header, dayLine, refusedLine}
+use Rattle.log.proofs.WorkedCrop.{cropLog}
+use Rattle.log.proofs.WorkedCrop.{worked as crop-worked}
+use Rattle.text.specs.Report.{linesOf, textOf, reportOf, wholeReport}
+use Rattle.lines.specs.Text.{newline, leading, digits, padded, inches, verdictText, header, dayLine, cropLine, refusedLine}
 
 -- `STN YEAR DAY ET`, `LIDW 2008 010 R7`, `LIDW 2008 011 R7`, `LIDW 2008 012 0.0000`
 pub report : wholeReport sample ≡
@@ -35,3 +42,21 @@ answers-short = refl
 pub empty : wholeReport [] ≡ header
 unfolding wholeReport reportOf outcomeOf readingOf readFrom recordAt
 empty = refl
+
+-- `LIDW 2008 178 R7`, `LIDW 2008 179 R7`, `LIDW 2008 180 0.3518`, `BEAN 0.1319`; and the second block without a crop, its last day `0.3356`
+pub with-crop : wholeReport cropLog ≡
+    83 ∷ 84 ∷ 78 ∷ 32 ∷ 89 ∷ 69 ∷ 65 ∷ 82 ∷ 32 ∷ 68 ∷ 65 ∷ 89 ∷ 32 ∷ 69 ∷ 84 ∷ newline
+    ∷ 76 ∷ 73 ∷ 68 ∷ 87 ∷ 32 ∷ 50 ∷ 48 ∷ 48 ∷ 56 ∷ 32 ∷ 49 ∷ 55 ∷ 56 ∷ 32 ∷ 82 ∷ 55 ∷ newline
+    ∷ 76 ∷ 73 ∷ 68 ∷ 87 ∷ 32 ∷ 50 ∷ 48 ∷ 48 ∷ 56 ∷ 32 ∷ 49 ∷ 55 ∷ 57 ∷ 32 ∷ 82 ∷ 55 ∷ newline
+    ∷ 76 ∷ 73 ∷ 68 ∷ 87 ∷ 32 ∷ 50 ∷ 48 ∷ 48 ∷ 56 ∷ 32 ∷ 49 ∷ 56 ∷ 48 ∷ 32 ∷ 48 ∷ 46 ∷ 51 ∷ 53 ∷ 49 ∷ 56 ∷ newline
+    ∷ 66 ∷ 69 ∷ 65 ∷ 78 ∷ 32 ∷ 48 ∷ 46 ∷ 49 ∷ 51 ∷ 49 ∷ 57 ∷ newline
+    ∷ 76 ∷ 73 ∷ 68 ∷ 87 ∷ 32 ∷ 50 ∷ 48 ∷ 48 ∷ 56 ∷ 32 ∷ 49 ∷ 55 ∷ 55 ∷ 32 ∷ 82 ∷ 55 ∷ newline
+    ∷ 76 ∷ 73 ∷ 68 ∷ 87 ∷ 32 ∷ 50 ∷ 48 ∷ 48 ∷ 56 ∷ 32 ∷ 49 ∷ 55 ∷ 56 ∷ 32 ∷ 82 ∷ 55 ∷ newline
+    ∷ 76 ∷ 73 ∷ 68 ∷ 87 ∷ 32 ∷ 50 ∷ 48 ∷ 48 ∷ 56 ∷ 32 ∷ 49 ∷ 55 ∷ 57 ∷ 32 ∷ 82 ∷ 55 ∷ newline
+    ∷ 76 ∷ 73 ∷ 68 ∷ 87 ∷ 32 ∷ 50 ∷ 48 ∷ 48 ∷ 56 ∷ 32 ∷ 49 ∷ 56 ∷ 48 ∷ 32 ∷ 48 ∷ 46 ∷ 51 ∷ 51 ∷ 53 ∷ 54 ∷ newline
+    ∷ []
+unfolding wholeReport reportOf outcomeOf readingOf readFrom recordAt stationAt dayAt cropAt wordAt signedOf signedAt badCrop dayLine cropLine padded verdictText inches digits leading
+with-crop =
+    λ i.
+    let n = length (bytesOf (crop-worked i)) in
+    textOf (cond (ltb n n) (outcome.Refused 12 n) (outcome.Written n)) (crop-worked i)

@@ -1,0 +1,155 @@
+-- A log with a crop worked through, byte for byte. Beans hold in the first block: two days that are refused have no crop figure, the third, an answered
+-- day, has one, so what is promised of crop figures can be met. A station of the same code then opens a block in which no crop holds. And a log
+-- without a crop, whose answers are those that it had. Assumes nothing.
+use mathlib.Core.Path.{_≡_, refl, sym}
+use mathlib.Core.Bool.{true, cond}
+use mathlib.Core.List.{List, [], _∷_, _++_}
+use Prim.Native.Nat.{ℕ}
+use native.Mathlib.Omega.{arith}
+use lib.Dec.{ltb}
+use lib.IntN.{pos}
+use lib.ListN.{length, take, drop, replicate}
+use Rattle.crops.specs.Crop.{badCrop, inSeason, above, cropFigure}
+use Rattle.crops.specs.declared.Crop.{Crop}
+use Rattle.day.specs.Calendar.{yearLength, isDate}
+use Rattle.day.specs.Judgement.{holds, standingOf, judged, Answered}
+use Rattle.day.specs.declared.Earlier.{Earlier}
+use Rattle.day.specs.declared.Mean.the-variants.{Present, Absent}
+use Rattle.day.specs.declared.Refusal.the-variants.{Missing}
+use Rattle.day.specs.declared.Verdict.{Verdict}
+use Rattle.day.specs.declared.Verdict.the-variants.{Figure, Refused}
+use Rattle.day.proofs.Examples.{days}
+use Rattle.answers.specs.Answers.{dayAnswer, bytesOf}
+use Rattle.answers.specs.declared.Answer.{Answer}
+use Rattle.answers.specs.declared.Answer.the-variants as answer
+use Rattle.records.specs.Bytes.{wordAt, signedOf, signedAt}
+use Rattle.records.specs.Record.{stationAt, dayAt, cropAt, recordAt}
+use Rattle.log.specs.CropFigures.{CropDay}
+use Rattle.log.specs.Days.{DayAt}
+use Rattle.log.specs.Demand.{AnsweredDay}
+use Rattle.log.specs.History.{daysBefore, goodDate, counted, earlierMeans, verdictOf}
+use Rattle.log.specs.Log.{planted, cropAnswers, answersTo, readFrom, readingOf, entriesOf, outcomeOf, leaves, bufferAfter}
+use Rattle.log.specs.declared.Outcome.the-variants as outcome
+use Rattle.log.specs.WithoutCrops.{recordBefore, readBefore, readingBefore, WithoutCrops}
+use Rattle.log.proofs.Sample.{sample, station}
+
+-- BEAN of 2008, from day 155 to day 255
+abbrev beans : List ℕ
+beans =
+    6 ∷ 66 ∷ 69 ∷ 65 ∷ 78 ∷ 7 ∷ 216 ∷ 0 ∷ 155 ∷ 0 ∷ 255
+    ∷ 20 ∷ 22 ∷ 30 ∷ 45 ∷ 65 ∷ 90 ∷ 105 ∷ 107 ∷ 95 ∷ 60 ∷ 30 ∷ []
+
+-- day d of 2008, all temperatures of high and low byte, the wind missing
+abbrev windless : ℕ → ℕ → ℕ → List ℕ
+windless d high low = 2 ∷ 7 ∷ 216 ∷ 0 ∷ d ∷ high ∷ low ∷ high ∷ low ∷ high ∷ low ∷ high ∷ low ∷ 0 ∷ 0 ∷ 128 ∷ 0 ∷ []
+
+-- day 180 of 2008: 90, 55, 72 and 50 °F, 700 cal/cm²/d, 100 miles
+abbrev summer : List ℕ
+summer = 2 ∷ 7 ∷ 216 ∷ 0 ∷ 180 ∷ 3 ∷ 132 ∷ 2 ∷ 38 ∷ 2 ∷ 208 ∷ 1 ∷ 244 ∷ 27 ∷ 88 ∷ 3 ∷ 232 ∷ []
+
+-- means of 70 and 71 °F before it in the first block, of 45.5, 61 and 85 °F in the second
+abbrev pub cropLog : List ℕ
+cropLog =
+    station ++ beans ++ windless 178 2 188 ++ windless 179 2 198 ++ summer
+    ++ station ++ windless 177 1 199 ++ windless 178 2 98 ++ windless 179 3 82 ++ summer
+
+abbrev means : Earlier
+means = record { one = Present (pos 710); two = Present (pos 700); three = Absent }
+
+-- ---- the days without wind are refused
+
+abbrev none : Earlier
+none = record { one = Absent; two = Absent; three = Absent }
+
+abbrev one : ℕ → Earlier
+one f = record { one = Present (pos f); two = Absent; three = Absent }
+
+-- the verdict at the offset of a day
+abbrev at : ℕ → Earlier → Verdict
+at offset earlier = judged (stationAt cropLog 1) (dayAt cropLog offset) earlier
+
+lacking : (at 42 none ≡ Refused Missing) × (at 59 (one 700) ≡ Refused Missing) × (at 112 none ≡ Refused Missing) × (at 129 (one 455) ≡ Refused Missing)
+    × (at 146 (record { one = Present (pos 610); two = Present (pos 455); three = Absent }) ≡ Refused Missing)
+unfolding judged standingOf holds stationAt dayAt wordAt signedOf signedAt isDate yearLength
+lacking = (refl, refl, refl, refl, refl)
+
+-- ---- the answers, by the verdicts
+
+-- those of a day while the beans hold
+abbrev sown : ℕ → Verdict → List Answer
+sown offset v = dayAnswer (dayAt cropLog offset) v ∷ cropAnswers (planted (cropAt cropLog 20)) (dayAt cropLog offset) v
+
+-- the answers before that of day 180, in the first block
+abbrev front : Verdict → Verdict → List Answer
+front v w = answer.Station (stationAt cropLog 1 .code) ∷ (sown 42 v ++ (sown 59 w ++ []))
+
+-- record 4 is an answered day of the beans' season
+pub crop-day : CropDay cropLog 4 (stationAt cropLog 1) (dayAt cropLog 76) means 23 (cropAt cropLog 20)
+unfolding readingOf readFrom recordAt stationAt dayAt cropAt wordAt signedOf signedAt isDate yearLength daysBefore goodDate counted earlierMeans verdictOf Answered badCrop inSeason
+crop-day =
+    record {
+      answered = record {
+        at = record {
+          before = take 4 (entriesOf (readingOf cropLog));
+          later = drop 5 (entriesOf (readingOf cropLog));
+          block = record {
+            station = stationAt cropLog 1;
+            days = dayAt cropLog 59 ∷ dayAt cropLog 42 ∷ [];
+            crop = planted (cropAt cropLog 20);
+          };
+          stands = refl;
+          index = refl;
+          stationed = refl;
+          means = refl;
+          dated = refl;
+          behind = sym (λ i. length (bytesOf (front (lacking .0 i) (lacking .1 i))));
+        };
+        others = λ r t. days .1 .answered r;
+      };
+      holds = refl;
+      season = refl;
+    }
+
+-- 37.5 per cent of 3,518 ten-thousandths of an inch, between stages 2 and 3; and no crop figure in the second block
+pub worked : answersTo cropLog ≡
+    answer.Station (stationAt cropLog 1 .code)
+    ∷ answer.Day 2008 178 (Refused Missing) ∷ answer.Day 2008 179 (Refused Missing) ∷ answer.Day 2008 180 (Figure 3_518)
+    ∷ answer.Crop (cropAt cropLog 20 .code) 1_319
+    ∷ answer.Station (stationAt cropLog 1 .code)
+    ∷ answer.Day 2008 177 (Refused Missing) ∷ answer.Day 2008 178 (Refused Missing) ∷ answer.Day 2008 179 (Refused Missing)
+    ∷ answer.Day 2008 180 (Figure 3_356)
+    ∷ []
+unfolding readingOf readFrom recordAt stationAt dayAt cropAt wordAt signedOf signedAt isDate yearLength daysBefore goodDate counted earlierMeans verdictOf badCrop inSeason above cropFigure
+worked =
+    λ i.
+    answer.Station (stationAt cropLog 1 .code)
+    ∷ (sown 42 (lacking .0 i) ++ (sown 59 (lacking .1 i) ++ (sown 76 (days .1 .verdict i)
+    ++ (answer.Station (stationAt cropLog 93 .code)
+    ∷ dayAnswer (dayAt cropLog 112) (lacking .2 i) ∷ dayAnswer (dayAt cropLog 129) (lacking .3 i) ∷ dayAnswer (dayAt cropLog 146) (lacking .4 i)
+    ∷ dayAnswer (dayAt cropLog 163) (days .2 .verdict i)
+    ∷ []))))
+
+-- a buffer of 84 bytes: the last two are as they were
+pub bytes : bufferAfter cropLog (replicate 84 9) ≡
+    5 ∷ 76 ∷ 73 ∷ 68 ∷ 87
+    ∷ 4 ∷ 7 ∷ 216 ∷ 0 ∷ 178 ∷ 0 ∷ 0 ∷ 0 ∷ 7
+    ∷ 4 ∷ 7 ∷ 216 ∷ 0 ∷ 179 ∷ 0 ∷ 0 ∷ 0 ∷ 7
+    ∷ 3 ∷ 7 ∷ 216 ∷ 0 ∷ 180 ∷ 0 ∷ 0 ∷ 13 ∷ 190
+    ∷ 7 ∷ 66 ∷ 69 ∷ 65 ∷ 78 ∷ 0 ∷ 0 ∷ 5 ∷ 39
+    ∷ 5 ∷ 76 ∷ 73 ∷ 68 ∷ 87
+    ∷ 4 ∷ 7 ∷ 216 ∷ 0 ∷ 177 ∷ 0 ∷ 0 ∷ 0 ∷ 7
+    ∷ 4 ∷ 7 ∷ 216 ∷ 0 ∷ 178 ∷ 0 ∷ 0 ∷ 0 ∷ 7
+    ∷ 4 ∷ 7 ∷ 216 ∷ 0 ∷ 179 ∷ 0 ∷ 0 ∷ 0 ∷ 7
+    ∷ 3 ∷ 7 ∷ 216 ∷ 0 ∷ 180 ∷ 0 ∷ 0 ∷ 13 ∷ 28
+    ∷ 9 ∷ 9 ∷ []
+unfolding bufferAfter outcomeOf readingOf readFrom recordAt stationAt dayAt cropAt wordAt signedOf signedAt badCrop
+bytes =
+    λ i.
+    let n = length (bytesOf (worked i)) in
+    leaves (cond (ltb 84 n) (outcome.Refused 12 n) (outcome.Written n)) (bytesOf (worked i)) (replicate 84 9)
+
+-- ---- a log without a crop
+
+pub without : WithoutCrops sample
+unfolding readingBefore readBefore recordBefore recordAt stationAt dayAt wordAt signedOf signedAt
+without at e = let z : _≡_ {A = ℕ} 0 1 = cc in absurd (omega arith)
