@@ -59,6 +59,20 @@ module _ {s : List ℕ} {at : ℕ} {a : Answer} (h : StandsAt s at a) where
       let fourth = byte (at + 1 + 3) 4 (omega arith) in
       λ i. record { first = first i; second = second i; third = third i; fourth = fourth i }
 
+  -- its bytes 5 to 8 as a number
+  value-told : wordAt s (at + 5) * 65536 + wordAt s (at + 5 + 2)
+      ≡ (getD (answerBytes a ++ h .rest) 5 0 * 256 + getD (answerBytes a ++ h .rest) 6 0) * 65536
+      + (getD (answerBytes a ++ h .rest) 7 0 * 256 + getD (answerBytes a ++ h .rest) 8 0)
+  unfolding wordAt
+  value-told =
+      omega (
+        arith,
+        byte (at + 5) 5 refl,
+        byte (at + 5 + 1) 6 (omega arith),
+        byte (at + 5 + 2) 7 (omega arith),
+        byte (at + 5 + 2 + 1) 8 (omega arith),
+      )
+
   left : length s - at ≡ length (answerBytes a) + length (h .rest)
   left = sym (length-drop at s) ∙ ap length (h .bytes) ∙ length-append (answerBytes a) (h .rest)
 
@@ -76,32 +90,11 @@ module _ {s : List ℕ} {at : ℕ} where
           omega (arith, byte h (at + 1) 1 refl, byte h (at + 1 + 1) 2 (omega arith)),
           omega (arith, byte h (at + 3) 3 refl, byte h (at + 3 + 1) 4 (omega arith)),
         );
-        value =
-            omega (
-              arith,
-              byte h (at + 5) 5 refl,
-              byte h (at + 5 + 1) 6 (omega arith),
-              byte h (at + 5 + 2) 7 (omega arith),
-              byte h (at + 5 + 2 + 1) 8 (omega arith),
-            );
+        value = omega (arith, value-told h);
       }
 
   pub crop-tells : {c : Code} {n : ℕ} → StandsAt s at (answer.Crop c n) → CropTold s at c n
-  unfolding wordAt
-  crop-tells h =
-      record {
-        inside = omega (arith, left h);
-        kind = byte h at 0 (omega arith);
-        code = letters h;
-        value =
-            omega (
-              arith,
-              byte h (at + 5) 5 refl,
-              byte h (at + 5 + 1) 6 (omega arith),
-              byte h (at + 5 + 2) 7 (omega arith),
-              byte h (at + 5 + 2 + 1) 8 (omega arith),
-            );
-      }
+  crop-tells h = record { inside = omega (arith, left h); kind = byte h at 0 (omega arith); code = letters h; value = omega (arith, value-told h) }
 
 -- ---- no two refusals have one number
 

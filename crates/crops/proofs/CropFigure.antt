@@ -1,20 +1,15 @@
--- A crop's figure as plain division (`nearest-is`), as the code works it from a share (`share-figure`), and its limit: it never exceeds twice the
--- reference figure (`twice-most`). Assumes nothing.
+-- A crop's figure as the code works it from a share (`share-figure`), and its limit: it never exceeds twice the reference figure (`twice-most`).
+-- Assumes nothing.
 use mathlib.Core.Path.{_≡_, refl, subst}
 use mathlib.Core.Bool.{false}
 use Prim.Native.Nat.{ℕ, _+_, _*_, _/_, _≤_, _<_}
 use native.Mathlib.Nat.{mul-le-mul-left, div-lt-iff-lt-mul}
 use native.Mathlib.Omega.{arith}
-use lib.IntN.{pos, natAbs}
-use Rattle.numbers.specs.Whole.{nearestQuotient}
 use Rattle.crops.specs.Crop.{badCrop, cropFigure}
 use Rattle.crops.specs.Share.{shareOn, shareFigure, ShareInRange}
 use Rattle.crops.specs.declared.Crop.{Crop}
 use Rattle.crops.specs.declared.Share.{Share}
 use Rattle.crops.proofs.Faultless.{faultless, share-in-range}
-
-pub nearest-is : (a b : ℕ) → natAbs (nearestQuotient (pos a) (pos b)) ≡ (2 * a + b) / (2 * b)
-nearest-is a b = refl
 
 pub share-figure : (c : Crop) (d n : ℕ) → shareFigure (shareOn c d) n ≡ cropFigure c d n
 unfolding shareFigure cropFigure

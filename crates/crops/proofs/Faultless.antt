@@ -9,15 +9,12 @@ use native.Mathlib.Omega.{arith}
 use borrow.Author.Tests.{ltb-false, leb-false, leb-true}
 use lib.Dec.{T, ltb, leb, eqb}
 use lib.ListN.{getD}
-use Rattle.day.specs.Calendar.{firstYear, lastYear}
 use Rattle.day.proofs.Tests.{all-false}
 use Rattle.crops.specs.Crop.{overAny, cropFaults, badCrop, inSeason, L, i, r, p, above}
 use Rattle.crops.specs.Share.{shareOn, ShareInRange}
 use Rattle.crops.specs.declared.Crop.{Crop}
 
 pub record Faultless (c : Crop) : Type 0 where
-  pub year-low : firstYear ≤ c .year
-  pub year-high : c .year ≤ lastYear
   pub start-low : 1 ≤ c .start
   pub start-full : c .start < c .full
   pub full-high : c .full ≤ 365
@@ -38,8 +35,6 @@ unfolding badCrop
 faultless c e =
     let each = all-false (cropFaults c) e .1 .1 .1 .1 in
     record {
-      year-low = ltb-false (c .year) firstYear (each .0);
-      year-high = ltb-false lastYear (c .year) (each .1 .0);
       start-low = ltb-false (c .start) 1 (each .1 .1 .1 .0);
       start-full = leb-false (c .full) (c .start) (each .1 .1 .1 .1 .0);
       full-high = ltb-false 365 (c .full) (each .1 .1 .1 .1 .1 .0);

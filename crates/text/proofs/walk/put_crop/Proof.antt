@@ -4,7 +4,7 @@ use native.Mathlib.Omega.{arith}
 use lib.ListN.{length}
 use borrow.Author.Needs.{needs}
 use Rattle.lines.specs.Text.{cropLine}
-use Rattle.text.proofs.Laid.{laid-written, laid-counted}
+use Rattle.text.proofs.Laid.{written-line, counted-line}
 use Rattle.lines.proofs.Lengths.{crop-line-most}
 use Rattle.text.proofs.walk.put_crop.Statement.{statement}
 use Rattle.text.proofs.walk.put_crop.Tie as tie
@@ -19,16 +19,13 @@ returns : tie.Need-returns
 returns c =
     let called = c .before .before in
     let wrote = called .before .before in
-    let w = called .put-crop-line .ensures in
-    (laid-written (wrote .if1 .taken) w, omega (arith, w .behind, short (wrote .before .before)))
+    written-line (short (wrote .before .before)) (wrote .if1 .taken) (called .put-crop-line .ensures)
 
 add-result : tie.Need-add-result
 add-result c = omega (arith, c .crop-line .ensures .size, short (c .before .before .before .before))
 
 returns-2 : tie.Need-returns-2
-returns-2 c =
-    let size = c .crop-line .ensures .size in
-    (laid-counted (c .before .before .if1 .left) size, omega (arith, size, short (c .before .before .before .before)))
+returns-2 c = counted-line (short (c .before .before .before .before)) (c .before .before .if1 .left) (c .crop-line .ensures .size)
 
 pub put-crop-spec : {M : Type 1} → statement M
 put-crop-spec = tie.close (tie.spec put-crop-line-requires (λ c. search needs) returns (λ c κs. search needs) add-result returns-2)

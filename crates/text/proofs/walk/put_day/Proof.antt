@@ -4,7 +4,7 @@ use native.Mathlib.Omega.{arith}
 use lib.ListN.{length}
 use borrow.Author.Needs.{needs}
 use Rattle.lines.specs.Text.{dayLine}
-use Rattle.text.proofs.Laid.{laid-written, laid-counted}
+use Rattle.text.proofs.Laid.{written-line, counted-line}
 use Rattle.lines.proofs.Lengths.{day-line-most}
 use Rattle.text.proofs.walk.put_day.Statement.{statement}
 use Rattle.text.proofs.walk.put_day.Tie as tie
@@ -19,16 +19,13 @@ returns : tie.Need-returns
 returns c =
     let called = c .before .before in
     let wrote = called .before .before in
-    let w = called .put-day-line .ensures in
-    (laid-written (wrote .if1 .taken) w, omega (arith, w .behind, short (wrote .before .before)))
+    written-line (short (wrote .before .before)) (wrote .if1 .taken) (called .put-day-line .ensures)
 
 add-result : tie.Need-add-result
 add-result c = omega (arith, c .day-line .ensures .size, short (c .before .before .before .before))
 
 returns-2 : tie.Need-returns-2
-returns-2 c =
-    let size = c .day-line .ensures .size in
-    (laid-counted (c .before .before .if1 .left) size, omega (arith, size, short (c .before .before .before .before)))
+returns-2 c = counted-line (short (c .before .before .before .before)) (c .before .before .if1 .left) (c .day-line .ensures .size)
 
 pub put-day-spec : {M : Type 1} → statement M
 put-day-spec = tie.close (tie.spec put-day-line-requires (λ c. search needs) returns (λ c κs. search needs) add-result returns-2)
