@@ -1,112 +1,76 @@
--- A crop worked by hand, beans of 2008 from day 150 to day 250: its days, its percentages, its figures, and what would refuse it. Assumes nothing.
+-- A crop worked by hand, beans of 2008 from day 150 to day 250: its days (`days`), its percentages (`percentages`), its figures (`figures`), and both
+-- sides of each edge of refusal 13 (`edges`). Assumes nothing.
 use mathlib.Core.Path.{_≡_, refl}
 use mathlib.Core.Bool.{true, false}
-use mathlib.Core.List.{List, [], _∷_}
-use Prim.Native.Nat.{ℕ, _*_}
+use mathlib.Core.List.{List, [], _∷_, map}
+use Prim.Native.Nat.{ℕ}
 use Rattle.day.specs.declared.Code.{Code}
-use Rattle.crops.specs.Crop.{badCrop, inSeason, L, i, r, above, cropFigure}
+use Rattle.crops.specs.Crop.{badCrop, inSeason, i, r, above, cropFigure}
 use Rattle.crops.specs.declared.Crop.{Crop}
+
+abbrev of : Code → ℕ → ℕ → ℕ → List ℕ → Crop
+of code year start full stages = record { code = code; year = year; start = start; full = full; stages = stages }
 
 abbrev BEAN : Code
 BEAN = record { first = 66; second = 69; third = 65; fourth = 78 }
 
-abbrev percentages : List ℕ
-percentages = 20 ∷ 22 ∷ 30 ∷ 45 ∷ 65 ∷ 90 ∷ 105 ∷ 107 ∷ 95 ∷ 60 ∷ 30 ∷ []
-
-abbrev of : Code → ℕ → ℕ → List ℕ → Crop
-of code start full stages = record { code = code; year = 2008; start = start; full = full; stages = stages }
+-- the curve with a percentage of stage 10
+abbrev curve : ℕ → List ℕ
+curve last = 20 ∷ 22 ∷ 30 ∷ 45 ∷ 65 ∷ 90 ∷ 105 ∷ 107 ∷ 95 ∷ 60 ∷ last ∷ []
 
 abbrev beans : Crop
-beans = of BEAN 150 250 percentages
+beans = of BEAN 2008 150 250 (curve 30)
 
-taken : badCrop beans ≡ false
-unfolding badCrop
-taken = refl
-
--- ---- its days: the first and the last, those around them, and another year's
-
-first-day : inSeason beans 2008 150 ≡ true
+-- the first day and the last, those around them, and another year's
+pub days : (map (λ (d : ℕ). inSeason beans 2008 d) (149 ∷ 150 ∷ 250 ∷ 251 ∷ []) ≡ false ∷ true ∷ true ∷ false ∷ [])
+    × (map (λ (year : ℕ). inSeason beans year 180) (2007 ∷ 2008 ∷ 2009 ∷ []) ≡ false ∷ true ∷ false ∷ [])
 unfolding inSeason
-first-day = refl
+days = (refl, refl)
 
-last-day : inSeason beans 2008 250 ≡ true
-unfolding inSeason
-last-day = refl
-
-too-early : inSeason beans 2008 149 ≡ false
-unfolding inSeason
-too-early = refl
-
-too-late : inSeason beans 2008 251 ≡ false
-unfolding inSeason
-too-late = refl
-
-next-year : inSeason beans 2009 180 ≡ false
-unfolding inSeason
-next-year = refl
-
--- ---- its percentages, times L = 100
-
--- day 180 is stage 3
-on-stage : (i beans 180 ≡ 3) × (r beans 180 ≡ 0) × (above beans 180 ≡ 45 * L beans)
+-- L is 100. Day 180 is stage 3, day 185 half way to stage 4, day 249 nine tenths of the way to stage 10; at F stage 10 stands alone.
+pub percentages : (map (i beans) (150 ∷ 180 ∷ 185 ∷ 249 ∷ []) ≡ 0 ∷ 3 ∷ 3 ∷ 9 ∷ [])
+    × (map (r beans) (150 ∷ 180 ∷ 185 ∷ 249 ∷ []) ≡ 0 ∷ 0 ∷ 50 ∷ 90 ∷ [])
+    × (map (above beans) (150 ∷ 180 ∷ 185 ∷ 249 ∷ 250 ∷ []) ≡ 2_000 ∷ 4_500 ∷ 5_500 ∷ 3_300 ∷ 3_000 ∷ [])
 unfolding above
-on-stage = (refl, refl, refl)
+percentages = (refl, refl, refl)
 
--- day 185 is half way to stage 4
-between-stages : (i beans 185 ≡ 3) × (r beans 185 ≡ 50) × (above beans 185 ≡ 5_500)
-unfolding above
-between-stages = (refl, refl, refl)
-
--- the day before F, nine tenths of the way to stage 10
-before-full : (i beans 249 ≡ 9) × (r beans 249 ≡ 90) × (above beans 249 ≡ 3_300)
-unfolding above
-before-full = (refl, refl, refl)
-
--- at F stage 10 stands alone
-at-full : above beans 250 ≡ 30 * L beans
-unfolding above
-at-full = refl
-
--- ---- its figures
-
--- 3,518 × 55/100 = 1,934.9
-to-nearest : cropFigure beans 185 3_518 ≡ 1_935
+-- 3,518 × 55/100 = 1,934.9; 3,510 × 55/100 = 1,930.5; 3,518 × 30/100 = 1,055.4; and 3,518 × 20.2/100 = 710.636, not 703.6 of a percentage that was
+-- rounded first
+pub figures : (cropFigure beans 185 3_518 ≡ 1_935) × (cropFigure beans 185 3_510 ≡ 1_931) × (cropFigure beans 250 3_518 ≡ 1_055) × (cropFigure beans 151 3_518 ≡ 711)
 unfolding cropFigure above
-to-nearest = refl
+figures = (refl, refl, refl, refl)
 
--- 3,518 × 20.2/100 = 710.636, and not 703.6, of a percentage that was rounded first
-rounded-once : cropFigure beans 151 3_518 ≡ 711
-unfolding cropFigure above
-rounded-once = refl
+-- ---- refusal 13
 
--- 3,510 × 55/100 = 1,930.5
-half-up : cropFigure beans 185 3_510 ≡ 1_931
-unfolding cropFigure above
-half-up = refl
+-- the letters A and Z, years 1950 and 2099, a percentage of 200, S = 1, F = S + 1, F = 365
+abbrev taken : List Crop
+taken =
+    beans
+    ∷ of (record { first = 65; second = 90; third = 65; fourth = 90 }) 2008 150 250 (curve 30)
+    ∷ of BEAN 1950 150 250 (curve 30)
+    ∷ of BEAN 2099 150 250 (curve 30)
+    ∷ of BEAN 2008 150 250 (curve 200)
+    ∷ of BEAN 2008 1 250 (curve 30)
+    ∷ of BEAN 2008 150 151 (curve 30)
+    ∷ of BEAN 2008 150 365 (curve 30)
+    ∷ []
 
--- 3,518 × 30/100 = 1,055.4
-down : cropFigure beans 250 3_518 ≡ 1_055
-unfolding cropFigure above
-down = refl
+-- the characters beside A and Z in each place, years 1949 and 2100, a percentage of 201 at the last stage and at the first, S = 0, F = S, F = 366
+abbrev refused : List Crop
+refused =
+    of (record { first = 64; second = 69; third = 65; fourth = 78 }) 2008 150 250 (curve 30)
+    ∷ of (record { first = 66; second = 91; third = 65; fourth = 78 }) 2008 150 250 (curve 30)
+    ∷ of (record { first = 66; second = 69; third = 64; fourth = 78 }) 2008 150 250 (curve 30)
+    ∷ of (record { first = 66; second = 69; third = 65; fourth = 91 }) 2008 150 250 (curve 30)
+    ∷ of BEAN 1949 150 250 (curve 30)
+    ∷ of BEAN 2100 150 250 (curve 30)
+    ∷ of BEAN 2008 150 250 (curve 201)
+    ∷ of BEAN 2008 150 250 (201 ∷ 22 ∷ 30 ∷ 45 ∷ 65 ∷ 90 ∷ 105 ∷ 107 ∷ 95 ∷ 60 ∷ 30 ∷ [])
+    ∷ of BEAN 2008 0 250 (curve 30)
+    ∷ of BEAN 2008 150 150 (curve 30)
+    ∷ of BEAN 2008 150 366 (curve 30)
+    ∷ []
 
--- ---- what is refused: a small letter, a percentage of 201, S = 0, F = S, F = 366
-
-small-letter : badCrop (of (record { first = 98; second = 69; third = 65; fourth = 78 }) 150 250 percentages) ≡ true
+pub edges : (map badCrop taken ≡ map (λ (c : Crop). false) taken) × (map badCrop refused ≡ map (λ (c : Crop). true) refused)
 unfolding badCrop
-small-letter = refl
-
-over-two-hundred : badCrop (of BEAN 150 250 (20 ∷ 22 ∷ 30 ∷ 45 ∷ 65 ∷ 90 ∷ 105 ∷ 107 ∷ 95 ∷ 60 ∷ 201 ∷ [])) ≡ true
-unfolding badCrop
-over-two-hundred = refl
-
-start-zero : badCrop (of BEAN 0 250 percentages) ≡ true
-unfolding badCrop
-start-zero = refl
-
-full-on-start : badCrop (of BEAN 150 150 percentages) ≡ true
-unfolding badCrop
-full-on-start = refl
-
-full-late : badCrop (of BEAN 150 366 percentages) ≡ true
-unfolding badCrop
-full-late = refl
+edges = (refl, refl)

@@ -19,7 +19,7 @@ use Rattle.log.specs.Days.{DayAt}
 use Rattle.log.specs.Log.{outcomeOf}
 use Rattle.log.specs.declared.Outcome.the-variants.{Written}
 
--- "none of 1 to 5 and 12 holds of the log and its answer buffer", by the rules and not by what a reader returns
+-- "none of 1 to 5 and 12 and no log refusal that a request adds holds of the log and its answer buffer", by the rules and not by what a reader returns
 unfoldable pub AnsweredLog : List ℕ → List ℕ → Type 0
 AnsweredLog s buffer = (n : ℕ) × (outcomeOf s (length buffer) ≡ Written n)
 
