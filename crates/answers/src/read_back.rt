@@ -9,6 +9,9 @@ ghost use Rattle.answers.specs.Answers.{answerBytes};
 ghost use Rattle.answers.specs.ReadBack.{StandsAt};
 ghost use Rattle.answers.specs.declared.Answer.{Answer as Answered};
 use crate::Answer;
+use crate::CROP_SIZE;
+use crate::DAY_SIZE;
+use crate::STATION_SIZE;
 use day::Refusal;
 use day::Verdict;
 use records::bytes::code_at;
@@ -73,8 +76,8 @@ pub fn size(a: Answer) -> usize
     ensures { λ n. ⌜ n ≡ length (answerBytes a) ⌝ }
 {
     match a {
-        Answer::Station(_) => 5,
-        Answer::Day(_, _, _) => 9,
-        Answer::Crop(_, _) => 9,
+        Answer::Station(_) => STATION_SIZE,
+        Answer::Day(_, _, _) => DAY_SIZE,
+        Answer::Crop(_, _) => CROP_SIZE,
     }
 }
