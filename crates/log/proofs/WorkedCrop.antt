@@ -1,5 +1,5 @@
 -- A log with a crop worked through, byte for byte. Beans hold in the first block: two days that are refused have no crop figure, the third, an answered
--- day, has one, so what is promised of crop figures can be met. A station of the same code then opens a block in which no crop holds. And a log
+-- day, has one, so what is promised of crop figures can be met (`crop-day`, `kept`). A station of the same code then opens a block in which no crop holds. And a log
 -- without a crop, whose answers are those that it had. Assumes nothing.
 use mathlib.Core.Path.{_≡_, refl, sym}
 use mathlib.Core.Bool.{true, cond}
@@ -24,13 +24,13 @@ use Rattle.answers.specs.declared.Answer.{Answer}
 use Rattle.answers.specs.declared.Answer.the-variants as answer
 use Rattle.records.specs.Bytes.{wordAt, signedOf, signedAt}
 use Rattle.records.specs.Record.{stationAt, dayAt, cropAt, recordAt}
-use Rattle.log.specs.CropFigures.{CropDay}
-use Rattle.log.specs.Days.{DayAt}
-use Rattle.log.specs.Demand.{AnsweredDay}
+use Rattle.log.specs.CropFigures.{CropDay, CropFigureAt, CropFiguresOwed, EveryCropFigure}
+use Rattle.log.specs.Demand.{AnsweredLog}
 use Rattle.log.specs.History.{daysBefore, goodDate, counted, earlierMeans, verdictOf}
 use Rattle.log.specs.Log.{planted, cropAnswers, answersTo, readFrom, readingOf, entriesOf, outcomeOf, leaves, bufferAfter}
 use Rattle.log.specs.declared.Outcome.the-variants as outcome
 use Rattle.log.specs.WithoutCrops.{recordBefore, readBefore, readingBefore, WithoutCrops}
+use Rattle.log.proofs.CropFigures.{crop-figures-met}
 use Rattle.log.proofs.Sample.{sample, station}
 
 -- BEAN of 2008, from day 155 to day 255
@@ -129,8 +129,23 @@ worked =
     ∷ dayAnswer (dayAt cropLog 163) (days .2 .verdict i)
     ∷ []))))
 
--- a buffer of 84 bytes: the last two are as they were
-pub bytes : bufferAfter cropLog (replicate 84 9) ≡
+-- ---- a buffer of 84 bytes
+
+abbrev lent : List ℕ
+lent = replicate 84 9
+
+-- 82 are needed
+outcome-is : outcomeOf cropLog 84 ≡ outcome.Written 82
+unfolding outcomeOf readingOf readFrom recordAt stationAt dayAt cropAt wordAt signedOf signedAt badCrop
+outcome-is = λ i. let n = length (bytesOf (worked i)) in cond (ltb 84 n) (outcome.Refused 12 n) (outcome.Written n)
+
+-- so every hypothesis is met, and what is promised holds of this day
+pub kept : CropFigureAt (stationAt cropLog 1) (dayAt cropLog 76) means 23 (cropAt cropLog 20) (bufferAfter cropLog lent)
+unfolding EveryCropFigure CropFiguresOwed AnsweredLog
+kept = crop-figures-met cropLog lent (82, outcome-is) 4 23 (stationAt cropLog 1) (dayAt cropLog 76) means (cropAt cropLog 20) crop-day
+
+-- the last two bytes are as they were
+pub bytes : bufferAfter cropLog lent ≡
     5 ∷ 76 ∷ 73 ∷ 68 ∷ 87
     ∷ 4 ∷ 7 ∷ 216 ∷ 0 ∷ 178 ∷ 0 ∷ 0 ∷ 0 ∷ 7
     ∷ 4 ∷ 7 ∷ 216 ∷ 0 ∷ 179 ∷ 0 ∷ 0 ∷ 0 ∷ 7
@@ -142,11 +157,8 @@ pub bytes : bufferAfter cropLog (replicate 84 9) ≡
     ∷ 4 ∷ 7 ∷ 216 ∷ 0 ∷ 179 ∷ 0 ∷ 0 ∷ 0 ∷ 7
     ∷ 3 ∷ 7 ∷ 216 ∷ 0 ∷ 180 ∷ 0 ∷ 0 ∷ 13 ∷ 28
     ∷ 9 ∷ 9 ∷ []
-unfolding bufferAfter outcomeOf readingOf readFrom recordAt stationAt dayAt cropAt wordAt signedOf signedAt badCrop
-bytes =
-    λ i.
-    let n = length (bytesOf (worked i)) in
-    leaves (cond (ltb 84 n) (outcome.Refused 12 n) (outcome.Written n)) (bytesOf (worked i)) (replicate 84 9)
+unfolding bufferAfter stationAt cropAt
+bytes = λ i. leaves (outcome-is i) (bytesOf (worked i)) lent
 
 -- ---- a log without a crop
 
