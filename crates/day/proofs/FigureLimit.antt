@@ -15,11 +15,14 @@ use Rattle.day.proofs.Standings.{figure-answered}
 use Rattle.day.proofs.DayBound.{constantsOf, accepted}
 
 -- in ten-thousandths of an inch
-pub figure-most : (st : Station) (x : Day) (earlier : Earlier) → SignedConstants st → {n : ℕ} → judged st x earlier ≡ Figure n → n ≤ 80_000
+abbrev pub mostFigure : ℕ
+mostFigure = 80_000
+
+pub figure-most : (st : Station) (x : Day) (earlier : Earlier) → SignedConstants st → {n : ℕ} → judged st x earlier ≡ Figure n → n ≤ mostFigure
 unfolding figureOf earlierOf clearOf
 figure-most st x earlier constants told =
     let answered = figure-answered st x earlier told in
-    subst (λ (n : ℕ). n ≤ 80_000) (answered .1)
+    subst (λ (n : ℕ). n ≤ mostFigure) (answered .1)
     (sheet-limit.figure-most (readingsOf x) (entriesOf st x) (meansOf earlier) (constantsOf st x) (accepted st x earlier constants (answered .0)))
 
 pub figure-in-range : (st : Station) (x : Day) (earlier : Earlier) → SignedConstants st → (v : Verdict) → judged st x earlier ≡ v → FigureInRange v

@@ -43,7 +43,7 @@ unfoldable pub verdictText : Verdict → List ℕ
 verdictText (Figure n) = inches n
 verdictText (Refused r) = 82 ∷ digits (numberOf r)
 
--- the four letters of a station's code
+-- the four letters of a code
 abbrev pub codeText : Code → List ℕ
 codeText code = code .first ∷ code .second ∷ code .third ∷ code .fourth ∷ []
 

@@ -109,7 +109,7 @@ pub fn put_verdict_field(out: &mut [u8], at: usize, verdict: Verdict) -> usize
     put_verdict(out, start, verdict)
 }
 
-// A station's four letters.
+// The four letters of a code.
 pub fn put_code(out: &mut [u8], at: usize, code: Code) -> usize
     requires { ⌜ at + length (codeText code) ≤ length (now out) ⌝ }
     ensures { λ r. ⌜ Written (now (out .entry)) at (codeText code) (now (out .exit)) r ⌝ }

@@ -1,5 +1,5 @@
--- What is known of a day record of a log: its answer stands at its place (`answer-at`), its crop's figure behind it (`crop-answer-at`), and a good date is one of the calendar (`good-date`).
--- Assumes nothing.
+-- What is known of a day record of a log: its answer stands at its place (`answer-at`), its crop's figure behind it (`crop-answer-at`), and a good date
+-- is one of the calendar (`good-date`). Assumes nothing.
 use mathlib.Core.Path.{_≡_, refl, sym, ap, _∙_}
 use mathlib.Core.Bool.{Bool, true, false, cond}
 use mathlib.Core.List.{List, [], _∷_, _++_, append-assoc, append-nil}

@@ -1,6 +1,7 @@
 -- The lemmas that belong to no one function.
 pub mod Calendar
 pub mod Carried
+pub mod Turns
 pub mod Placed
 pub mod Readings
 pub mod Walked
@@ -16,5 +17,6 @@ pub mod WorkedLog
 pub mod WorkedCrop
 pub mod Steps
 pub mod OutcomeSize
+pub mod Counted
 pub mod Longest
 pub mod WithoutCrops

@@ -1,6 +1,6 @@
 -- A log with a crop worked through, byte for byte. Beans hold in the first block: two days that are refused have no crop figure, the third, an answered
--- day, has one, so what is promised of crop figures can be met (`crop-day`, `kept`). A station of the same code then opens a block in which no crop holds. And a log
--- without a crop, whose answers are those that it had. Assumes nothing.
+-- day, has one, so what is promised of crop figures can be met (`crop-day`, `kept`). A station of the same code then opens a block in which no crop
+-- holds. And a log without a crop (`without`). Assumes nothing.
 use mathlib.Core.Path.{_≡_, refl, sym}
 use mathlib.Core.Bool.{true, cond}
 use mathlib.Core.List.{List, [], _∷_, _++_}

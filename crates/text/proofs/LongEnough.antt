@@ -21,7 +21,7 @@ use Rattle.day.specs.declared.Refusal.the-variants.{BadDate}
 use Rattle.day.specs.declared.Station.{Station}
 use Rattle.day.specs.declared.Verdict.{Verdict}
 use Rattle.day.specs.declared.Verdict.the-variants.{Figure, Refused}
-use Rattle.day.proofs.FigureLimit.{figure-most}
+use Rattle.day.proofs.FigureLimit.{mostFigure, figure-most}
 use Rattle.day.proofs.Passed.{day-high}
 use Rattle.records.specs.Bytes.{wordAt}
 use Rattle.records.specs.Record.{dayAt}
@@ -34,7 +34,8 @@ use Rattle.log.specs.declared.Outcome.the-variants as outcome
 use Rattle.log.proofs.Calendar.{date-tells}
 use Rattle.log.proofs.Carried.{PlantedSound}
 use Rattle.log.proofs.Days.{good-date}
-use Rattle.log.proofs.Longest.{daysOf, figuresOf, answers-most, lines-room}
+use Rattle.log.proofs.Counted.{daysOf, figuresOf}
+use Rattle.log.proofs.Longest.{answers-most, lines-room}
 use Rattle.log.proofs.OutcomeSize.{Small, outcome-small, outcome-alike}
 use Rattle.log.proofs.Stations.{Sound, SoundEntries, sound-reading, station-constants}
 use Rattle.text.specs.Report.{linesFrom, linesOf, textOf, reportOf, wholeReport, AreBytes, LongEnough}
@@ -43,6 +44,10 @@ use Rattle.text.specs.declared.walk.Open.{Open}
 use Rattle.text.specs.declared.walk.Open.the-variants.{NoBlock, In}
 use Rattle.lines.proofs.Digits.{padded-most, inches-most}
 use Rattle.lines.proofs.Lengths.{refusal-most, day-line-size, crop-line-size, refused-line-most}
+
+-- the header, and the most bytes that the lines can have
+abbrev pub longestReport : ℕ
+longestReport = 130984
 
 module _ (s : List ℕ) (bytes : AreBytes s) where
   -- ---- a day's line
@@ -92,17 +97,17 @@ module _ (s : List ℕ) (bytes : AreBytes s) where
         by (Figure n) e date = figure-line-most date n e
         by (Refused r) e date = refused-most r
 
-    figure-small : (n : ℕ) → verdictOf x h y ≡ Figure n → n ≤ 80_000
+    figure-small : (n : ℕ) → verdictOf x h y ≡ Figure n → n ≤ mostFigure
     unfolding verdictOf
     figure-small n e = by (goodDate h y) e
       where
-        by : (b : Bool) → cond b (judged x y (earlierMeans h y)) (Refused BadDate) ≡ Figure n → n ≤ 80_000
+        by : (b : Bool) → cond b (judged x y (earlierMeans h y)) (Refused BadDate) ≡ Figure n → n ≤ mostFigure
         by true told = figure-most x y (earlierMeans h y) (station-constants sound) told
         by false told = let z : _≡_ {A = ℕ} 0 1 = cc in absurd (omega arith)
 
   -- ---- a crop's line: two digits before the point at most
 
-  crop-most : (c : Crop) (y : Day) → badCrop c ≡ false → {n : ℕ} → n ≤ 80_000 → length (cropLine (c .code) (cropFigure c (y .d) n)) ≤ 13
+  crop-most : (c : Crop) (y : Day) → badCrop c ≡ false → {n : ℕ} → n ≤ mostFigure → length (cropLine (c .code) (cropFigure c (y .d) n)) ≤ 13
   crop-most c y good {n} small =
       let m = cropFigure c (y .d) n in
       let twice : m ≤ 160_000 = omega (arith, twice-most c good (y .d) n) in
@@ -113,7 +118,7 @@ module _ (s : List ℕ) (bytes : AreBytes s) where
     abbrev Few : List Answer → Type 0
     Few l = length (linesFrom block (l ++ rest)) ≤ 13 * length l + length (linesFrom block rest)
 
-    crops-most : (pl : Planted) (y : Day) (v : Verdict) → PlantedSound pl → ((n : ℕ) → v ≡ Figure n → n ≤ 80_000) → Few (cropAnswers pl y v)
+    crops-most : (pl : Planted) (y : Day) (v : Verdict) → PlantedSound pl → ((n : ℕ) → v ≡ Figure n → n ≤ mostFigure) → Few (cropAnswers pl y v)
     crops-most bare y v sound small = omega arith
     crops-most (planted c) y (Refused r) sound small = omega arith
     crops-most (planted c) y (Figure n) sound small =
@@ -146,9 +151,9 @@ module _ (s : List ℕ) (bytes : AreBytes s) where
       )
 
   abbrev Short : Outcome → Type 0
-  Short o = length (textOf o (answersTo s)) ≤ 130984
+  Short o = length (textOf o (answersTo s)) ≤ longestReport
 
-  text-most : length s ≤ longest → length (header ++ linesOf (answersTo s)) ≤ 130984
+  text-most : length s ≤ longest → length (header ++ linesOf (answersTo s)) ≤ longestReport
   text-most short =
       omega (
         arith,
@@ -165,13 +170,13 @@ module _ (s : List ℕ) (bytes : AreBytes s) where
   any-short short (outcome.Written n) small = text-most short
   any-short short (outcome.Refused number value) small = refused-short number value small
 
-  pub report-most : (size : ℕ) → length (reportOf s size) ≤ 130984
+  pub report-most : (size : ℕ) → length (reportOf s size) ≤ longestReport
   unfolding reportOf outcomeOf
   report-most size =
       by-cond (λ o. Small o → Short o) (ltb longest (length s)) (λ e. refused-short 5 0)
       (λ e. any-short (ltb-false longest (length s) e) (settled (readingOf s) size)) (outcome-small s size)
 
-pub long-enough : LongEnough longestAnswers 130984
+pub long-enough : LongEnough longestAnswers longestReport
 unfolding LongEnough wholeReport
 long-enough s bytes = (answers-most s, report-most s bytes (length (bytesOf (answersTo s))))
 

@@ -23,8 +23,8 @@ abbrev pub aboutBlock : Open → List ℕ
 aboutBlock block = []
 
 -- "An answer kind that a request adds prints its fields after the kind in the same way, figures in inches, in answer order."
--- What an answer prints: a day has its line, with its block's code, and a crop's figure has one. "A station prints no line of its own", but where it stands the block before it
--- has ended. No log answers a day before a station: it is refused with 4 (`station-first` in log/proofs/Longest.antt).
+-- What an answer prints: a day has its line, with its block's code, and a crop's figure has one. "A station prints no line of its own", but where it
+-- stands the block before it has ended. No log answers a day before a station: it is refused with 4 (`station-first` in log/proofs/Longest.antt).
 abbrev pub lineOf : Open → Answer → List ℕ
 lineOf block (answer.Station code) = aboutBlock block
 lineOf NoBlock (answer.Day year d verdict) = []

@@ -4,12 +4,13 @@ use Prim.Native.Nat.{_*_, _≤_}
 use native.Mathlib.Nat.{le-trans, mul-le-mul, mul-le-mul-left}
 use native.Mathlib.Omega.{arith}
 use borrow.Author.Needs.{needs}
+use Rattle.sheet.specs.Quantities.{largestFigure}
 use Rattle.crops.specs.Share.{shareFigure}
 use Rattle.crops.proofs.CropFigure.{share-twice-most}
 use Rattle.crops.proofs.figure.crop_figure.Statement.{statement}
 use Rattle.crops.proofs.figure.crop_figure.Tie as tie
 
-product-most : (s : tie.Start) → s .args .n * s .args .share .above ≤ 150_000 * (200 * 364)
+product-most : (s : tie.Start) → s .args .n * s .args .share .above ≤ largestFigure * (200 * 364)
 product-most s = let share = s .pre .0 in mul-le-mul (s .pre .1) (le-trans (share .most) (mul-le-mul-left 200 (share .long)))
 
 mul-result : tie.Need-mul-result
