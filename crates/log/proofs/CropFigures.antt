@@ -4,8 +4,7 @@ use mathlib.Core.Path.{_≡_, refl, sym, ap, _∙_, subst}
 use mathlib.Core.Bool.{Bool, false, cond}
 use mathlib.Core.List.{List, [], _∷_}
 use Prim.Native.Nat.{ℕ}
-use lib.ListN.{length}
-use Rattle.crops.specs.Crop.{badCrop, inSeason, cropFigure}
+use Rattle.crops.specs.Crop.{badCrop, cropFigure}
 use Rattle.crops.specs.declared.Crop.{Crop}
 use Rattle.crops.proofs.CropBound.{crop-within-bound, crop-within-proved}
 use Rattle.crops.proofs.CropFigure.{twice-most}

@@ -2,7 +2,7 @@
 -- day, has one, so what is promised of crop figures can be met (`crop-day`, `kept`). A station of the same code then opens a block in which no crop
 -- holds. And a log without a crop (`without`). Assumes nothing.
 use mathlib.Core.Path.{_≡_, refl, sym}
-use mathlib.Core.Bool.{true, cond}
+use mathlib.Core.Bool.{cond}
 use mathlib.Core.List.{List, [], _∷_, _++_}
 use Prim.Native.Nat.{ℕ}
 use native.Mathlib.Omega.{arith}
