@@ -19,4 +19,5 @@ pub mod Steps
 pub mod OutcomeSize
 pub mod Counted
 pub mod Longest
+pub mod WithoutKind
 pub mod WithoutCrops

@@ -29,7 +29,7 @@ use Rattle.log.specs.Demand.{AnsweredLog}
 use Rattle.log.specs.History.{daysBefore, goodDate, counted, earlierMeans, verdictOf}
 use Rattle.log.specs.Log.{planted, cropAnswers, answersTo, readFrom, readingOf, entriesOf, outcomeOf, leaves, bufferAfter}
 use Rattle.log.specs.declared.Outcome.the-variants as outcome
-use Rattle.log.specs.WithoutCrops.{recordBefore, readBefore, readingBefore, WithoutCrops}
+use Rattle.log.specs.WithoutKind.{recordWithout, readWithout, readingWithout, Without}
 use Rattle.log.proofs.CropFigures.{crop-figures-met}
 use Rattle.log.proofs.Sample.{sample, station}
 
@@ -162,6 +162,6 @@ bytes = λ i. leaves (outcome-is i) (bytesOf (worked i)) lent
 
 -- ---- a log without a crop
 
-pub without : WithoutCrops sample
-unfolding readingBefore readBefore recordBefore recordAt stationAt dayAt wordAt signedOf signedAt
+pub without : Without 6 sample
+unfolding readingWithout readWithout recordWithout recordAt stationAt dayAt wordAt signedOf signedAt
 without at e = let z : _≡_ {A = ℕ} 0 1 = cc in absurd (omega arith)

@@ -4,6 +4,7 @@ pub mod Log
 pub mod Days
 pub mod Demand
 pub mod CropFigures
+pub mod WithoutKind
 pub mod WithoutCrops
 pub mod Carried
 pub mod Passes
