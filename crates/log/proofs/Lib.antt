@@ -16,6 +16,7 @@ pub mod Sample
 pub mod WorkedLog
 pub mod WorkedCrop
 pub mod Steps
+pub mod TwoParts
 pub mod OutcomeSize
 pub mod Counted
 pub mod Longest

@@ -2,3 +2,5 @@
 pub mod Choice
 pub mod Signed
 pub mod RecordCases
+pub mod Alike
+pub mod Part
