@@ -59,7 +59,7 @@ same-means earlier =
 
 -- ---- an answered day: where none of the refusals holds, the numbers are what the sheet's nearness asks for
 
--- what the clear day is worked from
+-- what is taken of the station, and `d`
 abbrev pub constantsOf : Station → Day → Constants
 constantsOf st day =
     record {
@@ -69,6 +69,7 @@ constantsOf st day =
       c4 = st .c4;
       c5 = st .c5;
       minimum = pos (st .minimum);
+      limit = pos (st .limit);
       d = pos (day .d);
     }
 
@@ -91,6 +92,7 @@ module _ (st : Station) (day : Day) (earlier : Earlier) (constants : SignedConst
             passed-tests.minimum-high st day earlier (none-holds StationField),
           );
         };
+        limit = passed-tests.limit-in st day earlier (none-holds StationField);
         d = record {
           bounds = (passed-tests.day-low st day earlier (none-holds BadDate), passed-tests.day-high st day earlier (none-holds BadDate));
         };

@@ -5,6 +5,7 @@ use mathlib.Core.List.{List, [], _∷_, map}
 use Prim.Native.Nat.{ℕ, suc}
 use native.Mathlib.Omega.{arith}
 use lib.IntN.{ℤ, pos, negsuc}
+use Rattle.sheet.specs.Limits.{routineLimit}
 use Rattle.sheet.specs.StepSheet as sheet
 use Rattle.day.specs.Calendar.{yearLength, isDate}
 use Rattle.day.specs.Rules.{numberOf}
@@ -45,9 +46,9 @@ refused-is-judged st day earlier n e =
 
 -- ---- stations, days and earlier means
 
--- document 01's LIDW, but for the first letter, the clear-day minimum and the elevation
-abbrev station : ℕ → ℕ → ℕ → Station
-station letter minimum elevation =
+-- document 01's LIDW, but for the first letter, the clear-day minimum, the elevation and the wind limit
+abbrev limited : ℕ → ℕ → ℕ → ℕ → Station
+limited letter minimum elevation limit =
     record {
       code = record { first = letter; second = 73; third = 68; fourth = 87 };
       c1 = pos 154;
@@ -57,7 +58,12 @@ station letter minimum elevation =
       c5 = pos 590;
       minimum = minimum;
       elevation = elevation;
+      limit = limit;
     }
+
+-- with kind 1's limit
+abbrev station : ℕ → ℕ → ℕ → Station
+station letter minimum elevation = limited letter minimum elevation routineLimit
 
 abbrev lidw : Station
 lidw = station 76 100 497
@@ -74,6 +80,7 @@ even =
       c5 = pos 0;
       minimum = 100;
       elevation = 497;
+      limit = routineLimit;
     }
 
 -- a dark day at any date
@@ -139,7 +146,7 @@ written (n gives k) = k
 
 abbrev table : List Row
 table =
-    -- 3: a letter of the code, the minimum, the elevation
+    -- 3: a letter of the code, the minimum, the elevation, the wind limit
     (atStation (station 64 100 497) gives 3)
     ∷ (atStation (station 65 100 497) gives 0)
     ∷ (atStation (station 90 100 497) gives 0)
@@ -150,6 +157,10 @@ table =
     ∷ (atStation (station 76 201 497) gives 3)
     ∷ (atStation (station 76 100 3_000) gives 0)
     ∷ (atStation (station 76 100 3_001) gives 3)
+    ∷ (atStation (limited 76 100 497 999) gives 3)
+    ∷ (atStation (limited 76 100 497 1_000) gives 0)
+    ∷ (atStation (limited 76 100 497 1_500) gives 0)
+    ∷ (atStation (limited 76 100 497 1_501) gives 3)
     -- 6: the years, and the days of a leap year and of a common one
     ∷ (onDay (dated 1949 1) gives 6)
     ∷ (onDay (dated 1950 1) gives 0)

@@ -15,6 +15,7 @@ use Rattle.tables.proofs.PressureEntries.{pressure-is}
 use Rattle.sheet.specs.declared.Readings.{Readings}
 use Rattle.sheet.specs.declared.Entries.{Entries}
 use Rattle.sheet.specs.declared.Earlier.{Earlier as SheetEarlier}
+use Rattle.sheet.specs.Limits.{routineLimit}
 use Rattle.sheet.specs.Parts.{weighed}
 use Rattle.sheet.specs.StepSheet as sheet
 use Rattle.day.specs.Calendar.{yearLength, isDate}
@@ -93,12 +94,12 @@ marked = ap (λ (p : ℕ). pos p ∷ map written rest) (sym sea-level)
 -- ---- a day worked through: the pressure and the root are searches too, so both are put in as numbers
 
 -- the sheet's figure, of the root too
-abbrev figureWith : Readings → Entries → SheetEarlier → ℤ → ℤ → ℤ
-figureWith x t earlier q root =
+abbrev figureWith : Readings → Entries → SheetEarlier → ℤ → ℤ → ℤ → ℤ
+figureWith x t earlier q limit root =
     weighed (x .mean) (t .p)
     (sheet.H (sheet.Rn (t .albedo) (x .radiation) (sheet.Rb (sheet.emittance (t .a1) root) (sheet.B (x .maximum) (x .minimum)) (sheet.K (x .radiation) q)))
     (sheet.soilHeat (x .mean) (earlier .k) (earlier .z)))
-    (sheet.drying x t)
+    (sheet.drying x t limit)
 
 root-at : (f : ℤ) (n root : ℕ) → pos 10_000_000 *ℤ sheet.e f ≡ pos n → WholeRoot n root → sheet.r (sheet.e f) ≡ pos root
 unfolding sheet.r
@@ -112,10 +113,10 @@ pub record Worked (st : Station) (day : Day) (earlier : Earlier) (n : ℕ) : Typ
 
 module _ (st : Station) (day : Day) (earlier : Earlier) (t : Entries) (entries-are : entriesOf st day ≡ t) where
   figure-with : (root : ℤ) → sheet.r (sheet.e (day .dewpoint)) ≡ root →
-      figureOf st day earlier ≡ natAbs (figureWith (readingsOf day) t (earlierOf earlier) (clearOf st day) root)
+      figureOf st day earlier ≡ natAbs (figureWith (readingsOf day) t (earlierOf earlier) (clearOf st day) (pos (st .limit)) root)
   unfolding figureOf readingsOf sheet.figure sheet.heat
   figure-with root is =
-      ap₂ (λ (t : Entries) (root : ℤ). natAbs (figureWith (readingsOf day) t (earlierOf earlier) (clearOf st day) root)) entries-are is
+      ap₂ (λ (t : Entries) (root : ℤ). natAbs (figureWith (readingsOf day) t (earlierOf earlier) (clearOf st day) (pos (st .limit)) root)) entries-are is
 
   -- the tests of the refusals in their order
   abbrev tests : List Bool
@@ -145,7 +146,7 @@ module _ (st : Station) (day : Day) (earlier : Earlier) (t : Entries) (entries-a
 
   -- both by computation: none of the refusals holds, and the figure is n
   worked : SignedConstants st → {root : ℤ} → sheet.r (sheet.e (day .dewpoint)) ≡ root → anyOf tests ≡ false → {n : ℕ} →
-      natAbs (figureWith (readingsOf day) t (earlierOf earlier) (clearOf st day) root) ≡ n → Worked st day earlier n
+      natAbs (figureWith (readingsOf day) t (earlierOf earlier) (clearOf st day) (pos (st .limit)) root) ≡ n → Worked st day earlier n
   worked constants {root} is none {n} same =
       let answered = answered-by none in
       let figure : figureOf st day earlier ≡ n = figure-with root is ∙ same in
@@ -155,9 +156,9 @@ module _ (st : Station) (day : Day) (earlier : Earlier) (t : Entries) (entries-a
         bound = subst (WithinBound st day earlier) figure (within-bound st day earlier constants answered);
       }
 
--- the station of document 01's log: LIDW
-abbrev station : Station
-station =
+-- the station of document 01's log, LIDW, with any wind limit; and with that of kind 1
+abbrev limited : ℕ → Station
+limited limit =
     record {
       code = record { first = 76; second = 73; third = 68; fourth = 87 };
       c1 = pos 154;
@@ -167,9 +168,13 @@ station =
       c5 = pos 590;
       minimum = 100;
       elevation = 497;
+      limit = limit;
     }
 
-constants : SignedConstants station
+abbrev station : Station
+station = limited routineLimit
+
+constants : {limit : ℕ} → SignedConstants (limited limit)
 constants =
     record {
       c1 = record { bounds = lit≤ tt };
@@ -196,6 +201,10 @@ summerDay = record { year = 2008; d = 180; maximum = pos 900; minimum = pos 550;
 
 abbrev summerMeans : Earlier
 summerMeans = record { one = Present (pos 710); two = Present (pos 700); three = Absent }
+
+-- the same with wind above every limit
+abbrev windyDay : Day
+windyDay = record { year = 2008; d = 180; maximum = pos 900; minimum = pos 550; mean = pos 720; dewpoint = pos 500; radiation = pos 7_000; wind = pos 2_000 }
 
 -- the same after three means that differ: without one of them, or with one in another's place, the figure is another
 abbrev threeMeans : Earlier
@@ -225,4 +234,13 @@ days = (
   worked station winterDay winterMeans (winterEntries 954_675) (entries .0) constants (roots .0) refl refl,
   worked station summerDay summerMeans (summerEntries 954_675) (entries .1) constants (roots .1) refl refl,
   worked station summerDay threeMeans (summerEntries 954_675) (entries .1) constants (roots .1) refl refl,
+)
+
+-- with the limits 1,500, 1,200 and 1,000; at the last the figure is that of the day with 1,000
+pub limits : Worked station windyDay summerMeans 3_925 × Worked (limited 1_200) windyDay summerMeans 3_680 × Worked (limited 1_000) windyDay summerMeans 3_518
+unfolding entriesOf holds isDate yearLength readingsOf clearOf meansOf earlierOf sheet.sumOf sheet.clearSum sheet.Q sheet.aboveTwiceClear sheet.sumBelowOne sheet.U sheet.V2 sheet.V4 sheet.V6 sheet.V7 sheet.V8 sheet.e sheet.D sheet.M sheet.g sheet.w1 sheet.w2 sheet.ρ sheet.K sheet.N sheet.fourthPower sheet.B sheet.emittance sheet.Rb sheet.S sheet.Rn sheet.soilHeat sheet.H sheet.countedWind sheet.Wf sheet.«V» sheet.T sheet.drying sheet.A sheet.Figure
+limits = (
+  worked station windyDay summerMeans (summerEntries 954_675) (entries .1) constants (roots .1) refl refl,
+  worked (limited 1_200) windyDay summerMeans (summerEntries 954_675) (entries .1) constants (roots .1) refl refl,
+  worked (limited 1_000) windyDay summerMeans (summerEntries 954_675) (entries .1) constants (roots .1) refl refl,
 )

@@ -8,8 +8,9 @@ use native.Mathlib.Nat.{le-trans}
 use native.Mathlib.Omega.{arith}
 use borrow.Author.Tests.{ltb-false}
 use lib.Dec.{T, ltb, leb, leb→le, eqb}
-use lib.IntN.{ℤ}
+use lib.IntN.{ℤ, pos}
 use lib.Signed.{ltZ, _≤ℤ_}
+use Rattle.numbers.specs.Ranges.{InRange}
 use Rattle.numbers.proofs.IntegerOrder.{leZ-is}
 use Rattle.sheet.specs.Quantities as quantities
 use Rattle.sheet.specs.Accepted.{ReadingsInRange, EntriesInRange}
@@ -26,9 +27,12 @@ use Rattle.day.proofs.Tests.{AllFalse, all-false, passed}
 -- ---- the station
 
 module _ (st : Station) (day : Day) (earlier : Earlier) (accepted : holds StationField st day earlier ≡ false) where
-  station-passed : AllFalse (stationFaults (st .code .first) (st .code .second) (st .code .third) (st .code .fourth) (st .minimum) (st .elevation))
+  abbrev fieldFaults : List Bool
+  fieldFaults = stationFaults (st .code .first) (st .code .second) (st .code .third) (st .code .fourth) (st .minimum) (st .elevation) (st .limit)
+
+  station-passed : AllFalse fieldFaults
   unfolding holds
-  station-passed = all-false (stationFaults (st .code .first) (st .code .second) (st .code .third) (st .code .fourth) (st .minimum) (st .elevation)) accepted
+  station-passed = all-false fieldFaults accepted
 
   pub minimum-low : 50 ≤ st .minimum
   minimum-low = ltb-false (st .minimum) 50 (station-passed .1 .1 .1 .1 .0)
@@ -38,6 +42,9 @@ module _ (st : Station) (day : Day) (earlier : Earlier) (accepted : holds Statio
 
   pub elevation-high : st .elevation ≤ 3000
   elevation-high = ltb-false 3000 (st .elevation) (station-passed .1 .1 .1 .1 .1 .1 .0)
+
+  pub limit-in : InRange quantities.windLimit (pos (st .limit))
+  limit-in = passed quantities.windLimit (station-passed .1 .1 .1 .1 .1 .1 .1 .0)
 
 -- ---- the date
 

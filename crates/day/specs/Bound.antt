@@ -50,6 +50,7 @@ inputsOf st day earlier α a1 aw bw P x =
       c4 = fromℤ (st .c4) *ℚ 1 /ℚ 1000000;
       c5 = fromℤ (st .c5) *ℚ 1 /ℚ 1000000000;
       clearMinimum = fromℤ (pos (st .minimum));
+      windLimit = tenths (pos (st .limit));
       earlier = meansPresent earlier;
       α = α;
       a1 = a1;

@@ -72,7 +72,7 @@ earlierOf earlier = record { k = pos (length (meansOf earlier)); z = sumOf (mean
 
 -- the sheet's figure, which is never below 0
 unfoldable pub figureOf : Station → Day → Earlier → ℕ
-figureOf st x earlier = natAbs (sheet.figure (readingsOf x) (entriesOf st x) (earlierOf earlier) (clearOf st x))
+figureOf st x earlier = natAbs (sheet.figure (readingsOf x) (entriesOf st x) (earlierOf earlier) (clearOf st x) (pos (st .limit)))
 
 -- ---- when each refusal holds
 

@@ -3,10 +3,11 @@ use mathlib.Core.Bool.{Bool, true, false, not, cond, _||_}
 use mathlib.Core.List.{List, [], _∷_, _++_}
 use Prim.Native.Nat.{ℕ}
 use lib.Dec.{ltb}
-use lib.IntN.{ℤ, negsuc}
+use lib.IntN.{ℤ, pos, negsuc}
 use lib.Signed.{ltZ, leZ}
 use Rattle.numbers.specs.Ranges.{inRange}
 use Rattle.sheet.specs.Limits as limits
+pub use Rattle.sheet.specs.Limits.{routineLimit}
 use Rattle.day.specs.declared.Mean.{Mean}
 use Rattle.day.specs.declared.Mean.the-variants.{Present, Absent}
 use Rattle.day.specs.declared.Station.{Station}
@@ -28,19 +29,21 @@ abbrev pub anyOf : List Bool → Bool
 anyOf [] = false
 anyOf (b ∷ bs) = cond b true (anyOf bs)
 
--- 3: a station field out of range. Code: four capitals A to Z. Minimum: 50 to 200. Elevation: 0 to 3,000. c1 to c5: any.
+-- 3: a station field out of range. Code: four capitals A to Z. Minimum: 50 to 200. Elevation: 0 to 3,000. c1 to c5: any. A wind limit out of range
+-- (02, W2).
 abbrev pub notCapital : ℕ → Bool
 notCapital x = ltb x 65 || ltb 90 x
 
 abbrev pub codeFaults : ℕ → ℕ → ℕ → ℕ → List Bool
 codeFaults first second third fourth = notCapital first ∷ notCapital second ∷ notCapital third ∷ notCapital fourth ∷ []
 
-abbrev pub stationFaults : ℕ → ℕ → ℕ → ℕ → ℕ → ℕ → List Bool
-stationFaults first second third fourth minimum elevation =
-    codeFaults first second third fourth ++ (ltb minimum 50 ∷ ltb 200 minimum ∷ ltb 3000 elevation ∷ [])
+abbrev pub stationFaults : ℕ → ℕ → ℕ → ℕ → ℕ → ℕ → ℕ → List Bool
+stationFaults first second third fourth minimum elevation limit =
+    codeFaults first second third fourth
+    ++ (ltb minimum 50 ∷ ltb 200 minimum ∷ ltb 3000 elevation ∷ not (inRange limits.windLimit (pos limit)) ∷ [])
 
 abbrev pub badStation : Station → Bool
-badStation st = anyOf (stationFaults (st .code .first) (st .code .second) (st .code .third) (st .code .fourth) (st .minimum) (st .elevation))
+badStation st = anyOf (stationFaults (st .code .first) (st .code .second) (st .code .third) (st .code .fourth) (st .minimum) (st .elevation) (st .limit))
 
 -- 7: any of the six readings missing. The value -32,768, the least of the readings' type, means missing.
 abbrev pub isMissing : ℤ → Bool

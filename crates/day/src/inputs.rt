@@ -25,7 +25,7 @@ pub fn wide(x: i16) -> i64
 }
 
 // A field of two bytes, without sign.
-fn wide_unsigned(x: u16) -> i64
+pub fn wide_unsigned(x: u16) -> i64
     ensures { λ r. ⌜ (r ≡ pos x) × InRange (from 0 to 65535) r ⌝ }
 {
     x as i64

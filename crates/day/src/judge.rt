@@ -12,6 +12,7 @@ use crate::inputs::clear_of;
 use crate::inputs::earlier_of;
 use crate::inputs::entries_at;
 use crate::inputs::readings_of;
+use crate::inputs::wide_unsigned;
 use crate::refusals::standing;
 
 // The figure of a day that nothing refuses: the sheet worked, by the tables lent.
@@ -30,7 +31,8 @@ pub fn figure(
     let t = entries_at(days, pressures, day.d, station.elevation);
     let means = earlier_of(earlier);
     let q = clear_of(station, day);
-    sheet::figure::figure(x, t, means, q) as u32
+    let limit = wide_unsigned(station.limit);
+    sheet::figure::figure(x, t, means, q, limit) as u32
 }
 
 // The verdict of a day, by the tables lent.

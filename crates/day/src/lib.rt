@@ -17,7 +17,8 @@ pub struct Code {
     pub fourth: u8,
 }
 
-// A station. c1 to c5 are in units of 1, 0.001, 0.0001, 0.000001 and 0.000000001 cal/cm²/d, the clear-day minimum in cal/cm²/d, the elevation in metres.
+// A station. c1 to c5 are in units of 1, 0.001, 0.0001, 0.000001 and 0.000000001 cal/cm²/d, the clear-day minimum in cal/cm²/d, the elevation in metres,
+// the limit of the wind run in tenths of a mile.
 pub struct Station {
     pub code: Code,
     pub c1: i16,
@@ -27,6 +28,7 @@ pub struct Station {
     pub c5: i16,
     pub minimum: u16,
     pub elevation: u16,
+    pub limit: u16,
 }
 
 // A day: the year, the day of the year, and six readings in tenths, each possibly missing.

@@ -1,5 +1,6 @@
-// The kinds of readings, each with its range.
+// The kinds of readings and a station's wind limit, each with its range.
 ghost use mathlib.Core.Path.{_≡_};
+ghost use lib.IntN.{pos};
 ghost use Rattle.numbers.specs.Ranges.{inRange};
 ghost use Rattle.sheet.specs.Limits as limits;
 
@@ -54,5 +55,24 @@ impl Wind {
     {
         let t = self.tenths;
         Wind::LOW <= t && t <= Wind::HIGH
+    }
+}
+
+// A station's limit of the wind run, in tenths of a mile.
+pub struct WindLimit {
+    pub tenths: u16,
+}
+
+impl WindLimit {
+    pub const LOW: u16 = 1_000;
+
+    // The routine's, and the highest.
+    pub const ROUTINE: u16 = 1_500;
+
+    pub fn in_range(self) -> bool
+        ensures { λ r. ⌜ r ≡ inRange limits.windLimit (pos (self .tenths)) ⌝ }
+    {
+        let t = self.tenths;
+        WindLimit::LOW <= t && t <= WindLimit::ROUTINE
     }
 }

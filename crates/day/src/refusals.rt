@@ -41,6 +41,7 @@ pub fn bad_station(station: Station) -> bool
         code.fourth,
         station.minimum,
         station.elevation,
+        station.limit,
     )
 }
 

@@ -6,6 +6,7 @@ use crate::Mean;
 use crate::readings::Radiation;
 use crate::readings::Temperature;
 use crate::readings::Wind;
+use crate::readings::WindLimit;
 
 // The mark of a missing reading: no i16 is lower.
 pub const MISSING: i16 = -32_768;
@@ -17,7 +18,7 @@ pub fn not_capital(x: u8) -> bool
     x < 65 || 90 < x
 }
 
-// Refusal 3: a letter of the code that is no capital, the clear-day minimum or the elevation out of range.
+// Refusal 3: a letter of the code that is no capital, or the clear-day minimum, the elevation or the wind limit out of range.
 pub fn station_field_out_of_range(
     first: u8,
     second: u8,
@@ -25,8 +26,9 @@ pub fn station_field_out_of_range(
     fourth: u8,
     minimum: u16,
     elevation: u16,
+    limit: u16,
 ) -> bool
-    ensures { λ r. ⌜ r ≡ anyOf (stationFaults first second third fourth minimum elevation) ⌝ }
+    ensures { λ r. ⌜ r ≡ anyOf (stationFaults first second third fourth minimum elevation limit) ⌝ }
 {
     if not_capital(first) {
         return true;
@@ -46,7 +48,10 @@ pub fn station_field_out_of_range(
     if 200 < minimum {
         return true;
     }
-    3_000 < elevation
+    if 3_000 < elevation {
+        return true;
+    }
+    !(WindLimit { tenths: limit }).in_range()
 }
 
 // Refusal 7: one of the six readings is missing.

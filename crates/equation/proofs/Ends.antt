@@ -8,6 +8,7 @@ use Rattle.numbers.specs.Ranges.{from_to_, minus_to_, InRange}
 use Rattle.numbers.proofs.RangeArithmetic.{both}
 use Rattle.numbers.proofs.RangeTests.{in-range-test}
 use Rattle.sheet.specs.Quantities as quantities
+use Rattle.sheet.proofs.Choices.{limit-counts}
 
 -- a low end a and a high end b
 pub record Between (a b z : ℤ) : Type 0 where
@@ -29,3 +30,10 @@ IsTemperature = Between (negsuc 93) (pos 1291)
 
 pub temperature-ends : {f : ℤ} → InRange quantities.temperature f → IsTemperature f
 temperature-ends p = minus-ends 94 1291 p
+
+-- What the bound needs of a station's wind limit, in tenths: it is not below 0 and not above the routine's.
+abbrev pub IsLimit : ℤ → Type 0
+IsLimit = Between (pos 0) (pos quantities.routineLimit)
+
+pub limit-ends : {limit : ℤ} → InRange quantities.windLimit limit → IsLimit limit
+limit-ends p = from-ends 0 quantities.routineLimit (limit-counts p)

@@ -22,7 +22,7 @@ use Rattle.equation.specs.Equation.{value}
 use Rattle.equation.specs.Equation as equation
 use Rattle.equation.specs.Nearness.{Constants, ConstantsInRange, Accepted, clearDay, figureOf, bound, OfEveryValue, FigureNear}
 use Rattle.equation.proofs.Units.{billionths}
-use Rattle.equation.proofs.Ends.{Between, IsTemperature, from-ends, minus-ends, temperature-ends}
+use Rattle.equation.proofs.Ends.{Between, IsTemperature, from-ends, minus-ends, temperature-ends, limit-ends}
 use Rattle.equation.proofs.TemperatureBound.{e-rounded, e-low}
 use Rattle.equation.proofs.CloudBound.{Q-rounded, C-low}
 use Rattle.equation.proofs.SheetBound.{sheet-rounded}
@@ -99,7 +99,7 @@ module _ (r : Readings) (t : Entries) (fs : List ℤ) (c : Constants) (accepted 
   wind-ends : Between (pos 0) (pos 9999) (r .wind)
   wind-ends = from-ends 0 9999 (accepted .readings .wind)
 
-  figure-is : sheet.figure r t (record { k = pos (length fs); z = sheet.sumOf fs }) (clearDay c) ≡ pos (figureOf r t fs c)
+  figure-is : sheet.figure r t (record { k = pos (length fs); z = sheet.sumOf fs }) (clearDay c) (c .limit) ≡ pos (figureOf r t fs c)
   unfolding sheet.figure
   figure-is = figure-whole _ (sheet.M (r .mean)) (latent-in (accepted .readings .mean))
 
@@ -114,7 +114,7 @@ module _ (r : Readings) (t : Entries) (fs : List ℤ) (c : Constants) (accepted 
       (sheet-rounded r t
       (temperature-ends (accepted .readings .maximum)) (temperature-ends (accepted .readings .minimum)) (temperature-ends (accepted .readings .mean)) dewpoint
       (accepted .minimum-mean) (accepted .dewpoint-maximum)
-      (radiation-ends .low) (radiation-ends .high) (wind-ends .low) (wind-ends .high)
+      (radiation-ends .low) (radiation-ends .high) (wind-ends .low) (wind-ends .high) (c .limit) (limit-ends (accepted .constants .limit))
       fs (accepted .means) (accepted .few)
       (clearDay c) (C c (accepted .constants)) (clear-rounded c (accepted .constants)) (clear-low c (accepted .constants)) (accepted .below) α a1 aw bw P
       (day-entry 230000000 350000000 (t .albedo) α (35 over 100) (36 over 100) (entries .albedo) hα tt tt tt)

@@ -22,7 +22,7 @@ use Rattle.sheet.specs.StepSheet as sheet
 use Rattle.equation.specs.Equation as equation
 use Rattle.equation.specs.Nearness.{tenths, AllTemperatures, bound}
 use Rattle.equation.proofs.Units.{billionths}
-use Rattle.equation.proofs.Ends.{IsTemperature}
+use Rattle.equation.proofs.Ends.{IsTemperature, IsLimit}
 use Rattle.equation.proofs.TemperatureBound.{nonneg-above, product-at-least, e-rounded, e-low, e-high, e-rises, Δ-low, M-rounded, L-low, fourth-power-rounded}
 use Rattle.equation.proofs.WeightsBound.{mean-error, W-nonneg, rest-nonneg, sum-low, sum-above, W}
 use Rattle.equation.proofs.CloudBound.{R-rounded, K-rounded}
@@ -35,6 +35,7 @@ module _ (x : Readings) (t : Entries)
     (maximum : IsTemperature (x .maximum)) (minimum : IsTemperature (x .minimum)) (mean : IsTemperature (x .mean)) (dewpoint : IsTemperature (x .dewpoint))
     (minimum-mean : x .minimum ≤ℤ x .mean) (dewpoint-maximum : x .dewpoint ≤ℤ x .maximum)
     (s-low : pos 0 ≤ℤ x .radiation) (s-high : x .radiation ≤ℤ pos 12000) (w-low : pos 0 ≤ℤ x .wind) (w-high : x .wind ≤ℤ pos 9999)
+    (limit : ℤ) (is-limit : IsLimit limit)
     (fs : List ℤ) (all : AllTemperatures fs) (few : length fs ≤ 3)
     (q : ℤ) (C : ℚ) (hC : Rounded q billionths C (3000000 over 1) (0 over 1)) (C-low : 50 /ℚ 1 ≤ℚ C) (accepted : sheet.aboveTwiceClear (x .radiation) q ≡ false)
     (α a1 aw bw P : ℚ) (hα : Rounded (t .albedo) billionths α (36 over 100) (1 over 2000000000)) (ha1 : Rounded (t .a1) billionths a1 (361 over 1000) (1 over 2000000000))
@@ -60,7 +61,7 @@ module _ (x : Readings) (t : Entries)
 
   abbrev T′ : ℚ
   T′ =
-      equation.T aw bw (equation.u (tenths (x .wind))) (equation.e (tenths (x .maximum))) (equation.e (tenths (x .minimum))) (equation.e (tenths (x .dewpoint)))
+      equation.T aw bw (equation.u (tenths limit) (tenths (x .wind))) (equation.e (tenths (x .maximum))) (equation.e (tenths (x .minimum))) (equation.e (tenths (x .dewpoint)))
 
   heat-rounded : Rounded (sheet.heat x t (record { k = pos (length fs); z = sumOf fs }) q) (1 over 10000000) (Rn -ℚ G) (1165 over 10) (46 over 10000000)
   unfolding sheet.heat equation.Rn
@@ -73,13 +74,13 @@ module _ (x : Readings) (t : Entries)
       (K-rounded (x .radiation) s-low s-high q C hC C-low accepted)))
       (soil-rounded (x .mean) (mean .low) (mean .high) fs all few)
 
-  drying-rounded : Rounded (sheet.drying x t) (1 over 10000000) T′ (440 over 1) (196 over 10000000)
+  drying-rounded : Rounded (sheet.drying x t limit) (1 over 10000000) T′ (440 over 1) (196 over 10000000)
   unfolding sheet.drying equation.T
   drying-rounded =
       T-rounded
       (V-rounded (e-rounded (x .maximum) (maximum .low) (maximum .high)) (e-rounded (x .minimum) (minimum .low) (minimum .high)) (e-rounded (x .dewpoint) (dewpoint .low) (dewpoint .high))
       (e-low (x .maximum) (maximum .low) (maximum .high)) (e-low (x .minimum) (minimum .low) (minimum .high)) (e-low (x .dewpoint) (dewpoint .low) (dewpoint .high)))
-      (Wf-rounded haw hbw (u-rounded (x .wind) w-low w-high))
+      (Wf-rounded haw hbw (u-rounded is-limit (x .wind) w-low w-high))
 
   Δ-nonneg : NonNeg Δ
   Δ-nonneg = nonneg-above (nonneg-ratio (84 over 10000) tt) (Δ-low (x .mean) (mean .low) (mean .high))
@@ -88,7 +89,7 @@ module _ (x : Readings) (t : Entries)
   drying-bounded : Bounded T′ (643 /ℚ 100 *ℚ 45 /ℚ 10 *ℚ (76 /ℚ 10 +ℚ 1021 /ℚ 100 *ℚ Δ))
   unfolding equation.T
   drying-bounded =
-      bounded-mul (bounded-scale (643 /ℚ 100) (nonneg-ratio (643 over 100) tt) (Wf-rounded haw hbw (u-rounded (x .wind) w-low w-high) .size))
+      bounded-mul (bounded-scale (643 /ℚ 100) (nonneg-ratio (643 over 100) tt) (Wf-rounded haw hbw (u-rounded is-limit (x .wind) w-low w-high) .size))
       (V-bounded (e-rounded (x .maximum) (maximum .low) (maximum .high) .size .high) (e-rounded (x .dewpoint) (dewpoint .low) (dewpoint .high) .size .high)
       (e-low (x .minimum) (minimum .low) (minimum .high)) (e-low (x .dewpoint) (dewpoint .low) (dewpoint .high)) Δ-nonneg
       (e-rises (x .minimum) (x .mean) (minimum .low) (minimum .high) (mean .low) (mean .high) minimum-mean) (e-high (x .mean) (mean .low) (mean .high))
@@ -102,7 +103,7 @@ module _ (x : Readings) (t : Entries)
       <ℚ-≤ℚ-trans (<ℚ-ratio (1 over 10) tt)
       (product-at-least (526 over 10000) (23735 over 10000) (1 over 10) tt tt tt (sum-low (x .mean) (mean .low) (mean .high) (t .p) P hP P-low) (L-low (x .mean) (mean .low) (mean .high)))
 
-  pub sheet-rounded : Rounded (sheet.figure x t (record { k = pos (length fs); z = sumOf fs }) q) (1 over 10000) (equation.inches Δ γ L Rn G T′) (8 over 1) bound
+  pub sheet-rounded : Rounded (sheet.figure x t (record { k = pos (length fs); z = sumOf fs }) q limit) (1 over 10000) (equation.inches Δ γ L Rn G T′) (8 over 1) bound
   unfolding sheet.figure sheet.w2 equation.inches W
   sheet-rounded =
       of-value (ap (λ (v : ℚ). at-leastℚ (0 /ℚ 1) v) (weighed Δ γ L (Rn -ℚ G) T′ (sum-above (x .mean) (mean .low) (mean .high) (t .p) P hP P-low) L-above both-above))

@@ -10,16 +10,18 @@ use Rattle.numbers.specs.IntegerSolver.{ringℤ}
 use Rattle.numbers.specs.Ratios.{_over_}
 use Rattle.numbers.specs.Fractions.{ℚ, fromℤ, _/ℚ_, _+ℚ_, _-ℚ_, _*ℚ_, _÷ℚ_, nonneg, _≤ℚ_, at-mostℚ}
 use Rattle.numbers.proofs.FractionSolver.{ringℚ, _#_}
-use Rattle.numbers.proofs.Order.{NonNeg, nonneg-add, nonneg-mul, nonneg-ratio, nonneg-of, gap, from-gap, ≤ℚ-refl}
+use Rattle.numbers.proofs.Order.{NonNeg, nonneg-add, nonneg-mul, nonneg-ratio, nonneg-of, gap, from-gap, ≤ℚ-refl, ≤ℚ-ratio}
 use Rattle.numbers.proofs.WholeFractions.{fromℤ-mono}
-use Rattle.numbers.proofs.Bounds.{Bounded, bounded, bounded-ratio, bounded-eq, bounded-nonneg, bounded-sub}
+use Rattle.numbers.proofs.Bounds.{Bounded, bounded, bounded-weaken, bounded-eq, bounded-nonneg, bounded-sub}
 use Rattle.numbers.proofs.Quotients.{rounds-down, rounds-toward-zero}
 use Rattle.numbers.proofs.Rounded.{Rounded, weaken, in-unit, of-value, of-whole, sized, in-range, sum, difference, product, scaled, divided, portion}
 use Rattle.numbers.proofs.RoundedLimit.{limited-above}
+use Rattle.sheet.specs.Quantities.{routineLimit}
 use Rattle.sheet.specs.StepSheet as sheet
 use Rattle.equation.specs.Equation as equation
 use Rattle.equation.specs.Nearness.{tenths}
 use Rattle.equation.proofs.Units.{billionths, tenMillionths}
+use Rattle.equation.proofs.Ends.{IsLimit}
 use Rattle.equation.proofs.TemperatureBound.{nonneg-above}
 use Rattle.equation.proofs.RadiationBound.{half-is}
 
@@ -32,18 +34,18 @@ limit-bounded l x nl nx = by-test (nonneg (l -ℚ x)) refl
     by-test true p = bounded-nonneg nx (record { le = subst T (sym p) tt })
     by-test false p = bounded-nonneg nl (≤ℚ-refl l)
 
--- the wind run that counts: at most 1,500 tenths, 150 miles
-pub u-rounded : (w : ℤ) → pos 0 ≤ℤ w → w ≤ℤ pos 9999 → Rounded (sheet.countedWind w) (1 over 10) (equation.u (tenths w)) (150 over 1) (0 over 1)
+-- the wind run that counts: at most the station's limit, and so at most 150 miles
+pub u-rounded : {limit : ℤ} → IsLimit limit → (w : ℤ) → pos 0 ≤ℤ w → w ≤ℤ pos 9999 →
+    Rounded (sheet.countedWind limit w) (1 over 10) (equation.u (tenths limit) (tenths w)) (150 over 1) (0 over 1)
 unfolding sheet.countedWind equation.u
-u-rounded w lo hi =
-    sized (150 over 1)
-    (limit-bounded (150 /ℚ 1) (tenths w) (nonneg-ratio (150 over 1) tt) (nonneg-mul (nonneg-of (fromℤ-mono lo)) (nonneg-ratio (1 over 10) tt)))
-    (of-value (ap (λ (l : ℚ). at-mostℚ l (tenths w)) limit-is)
-    (limited-above (pos 1500) tt (bounded-eq limit-is (bounded-ratio (150 over 1) (9999 over 10) tt tt))
-    (in-range w (pos 0) (pos 9999) (1 over 10) (9999 over 10) lo hi tt tt tt)))
+u-rounded {limit} is w lo hi =
+    let size = in-range limit (pos 0) (pos routineLimit) (1 over 10) (150 over 1) (is .low) (is .high) tt tt tt .size in
+    sized (150 over 1) (bounded-weaken (limit-bounded (tenths limit) (tenths w) (in-tenths (is .low)) (in-tenths lo)) (size .high))
+    (limited-above limit tt (bounded-weaken size (≤ℚ-ratio (150 over 1) (9999 over 10) tt))
+    (in-range w (pos 0) (pos 9999) (1 over 10) (9999 over 10) lo hi tt tt tt))
   where
-    limit-is : fromℤ (pos 1500) *ℚ 1 /ℚ 10 ≡ 150 /ℚ 1
-    limit-is = ringℚ 0 (1500 # 1 :* 1 # 10 := 150 # 1) tt
+    in-tenths : {z : ℤ} → pos 0 ≤ℤ z → NonNeg (tenths z)
+    in-tenths h = nonneg-mul (nonneg-of (fromℤ-mono h)) (nonneg-ratio (1 over 10) tt)
 
 pub Wf-rounded : {aw bw w : ℤ} {Aw Bw u : ℚ} → Rounded aw billionths Aw (1801 over 1000) (1 over 2000000000) → Rounded bw billionths Bw (111 over 10000) (1 over 2000000000) → Rounded w (1 over 10) u (150 over 1) (0 over 1) →
     Rounded (sheet.Wf aw bw w) billionths (Aw +ℚ 16093 /ℚ 10000 *ℚ Bw *ℚ u) (45 over 10) (123 over 1000000000)

@@ -55,9 +55,9 @@ unfoldable pub G : ℚ → List ℚ → ℚ
 G mean [] = 0 /ℚ 1
 G mean (F ∷ Fs) = 377 /ℚ 1000 *ℚ (t mean -ℚ sumOf (F ∷ Fs) ÷ℚ numberOf (F ∷ Fs))
 
--- u is the wind run, at most 150. T = 6.43(aw + 1.6093 × bw × u) × ((e at maximum + e at minimum)/2 - ea).
-unfoldable pub u : ℚ → ℚ
-u wind = at-mostℚ (150 /ℚ 1) wind
+-- u is the wind run, at most 150, or the station's limit in its place (02, W2). T = 6.43(aw + 1.6093 × bw × u) × ((e at maximum + e at minimum)/2 - ea).
+unfoldable pub u : ℚ → ℚ → ℚ
+u limit wind = at-mostℚ limit wind
 
 unfoldable pub T : ℚ → ℚ → ℚ → ℚ → ℚ → ℚ → ℚ
 T aw bw u eMaximum eMinimum ea = 643 /ℚ 100 *ℚ (aw +ℚ 16093 /ℚ 10000 *ℚ bw *ℚ u) *ℚ ((eMaximum +ℚ eMinimum) ÷ℚ 2 /ℚ 1 -ℚ ea)
@@ -82,6 +82,7 @@ pub record Inputs : Type 0 where
   pub c4 : ℚ
   pub c5 : ℚ
   pub clearMinimum : ℚ
+  pub windLimit : ℚ
   pub earlier : List ℚ
   pub α : ℚ
   pub a1 : ℚ
@@ -96,4 +97,4 @@ value i =
     (Rn (i .α) (i .radiation) (i .a1) (i .x) (B (i .maximum) (i .minimum))
     (K (i .radiation) (C (i .c1) (i .c2) (i .c3) (i .c4) (i .c5) (i .clearMinimum) (i .d))))
     (G (i .mean) (i .earlier))
-    (T (i .aw) (i .bw) (u (i .wind)) (e (i .maximum)) (e (i .minimum)) (e (i .dewPoint)))
+    (T (i .aw) (i .bw) (u (i .windLimit) (i .wind)) (e (i .maximum)) (e (i .minimum)) (e (i .dewPoint)))

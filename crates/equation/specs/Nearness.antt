@@ -25,7 +25,7 @@ use Rattle.equation.specs.Equation as equation
 abbrev pub tenths : ℤ → ℚ
 tenths f = fromℤ f *ℚ 1 /ℚ 10
 
--- what a clear day is worked from: c1 to c5, the clear-day minimum and `d`
+-- what is taken of the station, and `d`: c1 to c5 and the clear-day minimum, from which a clear day is worked, and the wind limit
 pub record Constants : Type 0 where
   pub c1 : ℤ
   pub c2 : ℤ
@@ -33,6 +33,7 @@ pub record Constants : Type 0 where
   pub c4 : ℤ
   pub c5 : ℤ
   pub minimum : ℤ
+  pub limit : ℤ
   pub d : ℤ
 
 pub record ConstantsInRange (c : Constants) : Type 0 where
@@ -42,6 +43,7 @@ pub record ConstantsInRange (c : Constants) : Type 0 where
   pub c4 : InRange quantities.signedWord (c .c4)
   pub c5 : InRange quantities.signedWord (c .c5)
   pub minimum : InRange quantities.clearMinimum (c .minimum)
+  pub limit : InRange quantities.windLimit (c .limit)
   pub d : InRange quantities.dayOfYear (c .d)
 
 -- each earlier mean is a temperature in range
@@ -54,7 +56,7 @@ abbrev pub clearDay : Constants → ℤ
 clearDay c = sheet.Q (c .minimum) (sheet.clearSum (c .c1) (c .c2) (c .c3) (c .c4) (c .c5) (c .d))
 
 abbrev pub figureOf : Readings → Entries → List ℤ → Constants → ℕ
-figureOf x t fs c = natAbs (sheet.figure x t (record { k = pos (length fs); z = sheet.sumOf fs }) (clearDay c))
+figureOf x t fs c = natAbs (sheet.figure x t (record { k = pos (length fs); z = sheet.sumOf fs }) (clearDay c) (c .limit))
 
 -- What is asked of the numbers: each in its range, the readings in order, at most three earlier means, and refusal 10 does not hold
 pub record Accepted (x : Readings) (t : Entries) (fs : List ℤ) (c : Constants) : Type 0 where
@@ -85,6 +87,7 @@ inputsOf r Fs c α a1 aw bw P x =
       c4 = fromℤ (c .c4) *ℚ 1 /ℚ 1000000;
       c5 = fromℤ (c .c5) *ℚ 1 /ℚ 1000000000;
       clearMinimum = fromℤ (c .minimum);
+      windLimit = tenths (c .limit);
       earlier = Fs;
       α = α;
       a1 = a1;

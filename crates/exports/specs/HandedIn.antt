@@ -9,9 +9,9 @@ use Rattle.day.specs.declared.Mean.{Mean}
 use Rattle.day.specs.declared.Mean.the-variants.{Present, Absent}
 use Rattle.day.specs.declared.Station.{Station}
 
--- the code's letters, c1 to c5, the clear-day minimum, the elevation
-abbrev pub stationOf : ℕ → ℕ → ℕ → ℕ → ℤ → ℤ → ℤ → ℤ → ℤ → ℕ → ℕ → Station
-stationOf first second third fourth c1 c2 c3 c4 c5 minimum elevation =
+-- the code's letters, c1 to c5, the clear-day minimum, the elevation, the wind limit
+abbrev pub stationOf : ℕ → ℕ → ℕ → ℕ → ℤ → ℤ → ℤ → ℤ → ℤ → ℕ → ℕ → ℕ → Station
+stationOf first second third fourth c1 c2 c3 c4 c5 minimum elevation limit =
     record {
       code = record { first = first; second = second; third = third; fourth = fourth };
       c1 = c1;
@@ -21,6 +21,7 @@ stationOf first second third fourth c1 c2 c3 c4 c5 minimum elevation =
       c5 = c5;
       minimum = minimum;
       elevation = elevation;
+      limit = limit;
     }
 
 -- the date and the six readings, in the order of the day record

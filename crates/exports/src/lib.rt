@@ -50,6 +50,7 @@ pub extern "C" fn fuortwem_judge(
     c5: i16,
     clear_minimum: u16,
     elevation: u16,
+    wind_limit: u16,
     year: u16,
     d: u16,
     maximum: i16,
@@ -65,8 +66,8 @@ pub extern "C" fn fuortwem_judge(
     has_three: u8,
     three: i16,
 ) -> u64
-    ensures { λ r. ⌜ saidBy r ≡ verdictSaid (judged (stationOf first second third fourth c1 c2 c3 c4 c5 «clear_minimum» elevation) (dayOf year d maximum minimum mean dewpoint radiation wind) (threeBefore «has_one» one «has_two» two «has_three» three)) ⌝ }
-    ensures { λ r. ⌜ FigureSaid (stationOf first second third fourth c1 c2 c3 c4 c5 «clear_minimum» elevation) (dayOf year d maximum minimum mean dewpoint radiation wind) (threeBefore «has_one» one «has_two» two «has_three» three) r ⌝ }
+    ensures { λ r. ⌜ saidBy r ≡ verdictSaid (judged (stationOf first second third fourth c1 c2 c3 c4 c5 «clear_minimum» elevation «wind_limit») (dayOf year d maximum minimum mean dewpoint radiation wind) (threeBefore «has_one» one «has_two» two «has_three» three)) ⌝ }
+    ensures { λ r. ⌜ FigureSaid (stationOf first second third fourth c1 c2 c3 c4 c5 «clear_minimum» elevation «wind_limit») (dayOf year d maximum minimum mean dewpoint radiation wind) (threeBefore «has_one» one «has_two» two «has_three» three) r ⌝ }
 {
     let code = Code {
         first,
@@ -83,6 +84,7 @@ pub extern "C" fn fuortwem_judge(
         c5,
         minimum: clear_minimum,
         elevation,
+        limit: wind_limit,
     };
     let day = Day {
         year,

@@ -9,6 +9,8 @@ use mir.Syntax.{w64}
 use mir.Val.{ofZ}
 use borrow.Author.Tests.{ltb-false, leb-false}
 use Rattle.numbers.specs.Ranges.{InRange, from_to_, minus_to_}
+use Rattle.numbers.proofs.RangeArithmetic.{wider}
+use Rattle.sheet.specs.Quantities as quantities
 
 -- the machine tests a and b, which are a′ and b′
 module _ (test : ℤ → ℤ → Bool) {a a′ b b′ : ℤ} (p : a ≡ a′) (q : b ≡ b′) (x y : ℤ) where
@@ -35,11 +37,16 @@ pub positive-in : {a b : ℕ} {z : ℤ} → InRange (minus a to b) z → leZ z (
 positive-in {z = pos n} p e = omega (arith, leb-false n 0 e)
 positive-in {z = negsuc n} p e = let q : _≡_ {A = ℕ} 0 1 = cc in absurd (omega arith)
 
-pub at-most-in : {a b k : ℕ} {z : ℤ} → InRange (from a to b) z → ltZ (pos k) z ≡ false → InRange (from a to k) z
-at-most-in {k = k} {z = pos n} p e = omega (arith, ltb-false k n e)
-at-most-in {z = negsuc n} p e = absurd (p .bounds)
+pub at-most-in : {a b x y : ℕ} {l z : ℤ} → InRange (from x to y) l → InRange (from a to b) z → ltZ l z ≡ false → InRange (from a to y) z
+at-most-in {l = pos l} {z = pos n} p r e = omega (arith, ltb-false l n e)
+at-most-in {l = negsuc l} p r e = absurd (p .bounds)
+at-most-in {l = pos l} {z = negsuc n} p r e = absurd (r .bounds)
 
 pub at-least-in : {a b x y : ℕ} {l z : ℤ} → InRange (from a to b) l → InRange (minus x to y) z → ltZ z l ≡ false → InRange (from a to y) z
 at-least-in {l = pos l} {z = pos n} p r e = omega (arith, ltb-false n l e)
 at-least-in {l = pos l} {z = negsuc n} p r e = let q : _≡_ {A = ℕ} 0 1 = cc in absurd (omega arith)
 at-least-in {l = negsuc l} p r e = absurd (p .bounds)
+
+-- a wind limit is itself a wind run that counts
+pub limit-counts : {l : ℤ} → InRange quantities.windLimit l → InRange quantities.countedWind l
+limit-counts {l} p = record { bounds = wider quantities.windLimit quantities.countedWind l tt (p .bounds) }

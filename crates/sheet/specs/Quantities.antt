@@ -1,8 +1,8 @@
 -- The range of each quantity of the step sheet, in the sheet's unit: between these the code is proved not to overflow. Those of Limits.antt are
--- document 01's; the others are wide enough for what the readings can give, and no wider than the arithmetic needs. Assumes nothing.
+-- the documents'; the others are wide enough for what the readings can give, and no wider than the arithmetic needs. Assumes nothing.
 use Prim.Native.Nat.{ℕ}
 use Rattle.numbers.specs.Ranges.{Range, from_to_, minus_to_}
-pub use Rattle.sheet.specs.Limits.{temperature, radiation, wind, clearMinimum, dayOfYear, signedWord}
+pub use Rattle.sheet.specs.Limits.{temperature, radiation, wind, routineLimit, windLimit, clearMinimum, dayOfYear, signedWord}
 
 -- ---- the earlier means: their number and their sum
 
@@ -84,7 +84,7 @@ abbrev pub heat : Range
 heat = minus 3_000_000_000 to 3_000_000_000
 
 abbrev pub countedWind : Range
-countedWind = from 0 to 1_500
+countedWind = from 0 to routineLimit
 
 abbrev pub windFactor : Range
 windFactor = from 0 to 4_500_000_000

@@ -1,5 +1,5 @@
 -- The step sheet, line by line, in document 01's order and letters. f is a temperature in tenths of a degree Fahrenheit and m the mean; s is the
--- radiation and w the wind run, in tenths. `÷↓` is "down", `÷0` drops the fraction toward zero. Assumes nothing.
+-- radiation, w the wind run and `limit` the station's wind limit, in tenths. `÷↓` is "down", `÷0` drops the fraction toward zero. Assumes nothing.
 use mathlib.Core.Bool.{Bool, cond}
 use mathlib.Core.List.{List, [], _∷_}
 use Prim.Native.Nat.{zero, suc}
@@ -145,8 +145,9 @@ H Rn soilHeat = Rn -ℤ soilHeat
 
 -- ---- Office keeps the routine's limit: w over 1,500 counts as 1,500. Wf = aw + (bw × 16,093w/10⁵ down).
 
-unfoldable pub countedWind : ℤ → ℤ
-countedWind w = at-mostℤ (pos 1_500) w
+-- the station's limit "in place of 1,500 tenths" (02, W2)
+unfoldable pub countedWind : ℤ → ℤ → ℤ
+countedWind limit w = at-mostℤ limit w
 
 -- billionths
 unfoldable pub Wf : ℤ → ℤ → ℤ → ℤ
@@ -171,18 +172,18 @@ A w1 w2 H T = (w1 *ℤ H +ℤ w2 *ℤ T) ÷0 pos 1_000_000_000
 unfoldable pub Figure : ℤ → ℤ → ℤ
 Figure A M = cond (leZ A (pos 0)) (pos 0) (nearestQuotient (pos 23_622 *ℤ A) (pos 100 *ℤ M))
 
--- ---- the sheet worked through: of the readings, the tables' entries, the earlier means and the clear-day radiation
+-- ---- the sheet worked through: of the readings, the tables' entries, the earlier means, the clear-day radiation and the wind limit
 
 unfoldable pub heat : Readings → Entries → Earlier → ℤ → ℤ
 heat x t earlier q =
     H (Rn (t .albedo) (x .radiation) (Rb (emittance (t .a1) (r (e (x .dewpoint)))) (B (x .maximum) (x .minimum)) (K (x .radiation) q)))
     (soilHeat (x .mean) (earlier .k) (earlier .z))
 
-unfoldable pub drying : Readings → Entries → ℤ
-drying x t = T («V» (e (x .maximum)) (e (x .minimum)) (e (x .dewpoint))) (Wf (t .aw) (t .bw) (countedWind (x .wind)))
+unfoldable pub drying : Readings → Entries → ℤ → ℤ
+drying x t limit = T («V» (e (x .maximum)) (e (x .minimum)) (e (x .dewpoint))) (Wf (t .aw) (t .bw) (countedWind limit (x .wind)))
 
-unfoldable pub figure : Readings → Entries → Earlier → ℤ → ℤ
-figure x t earlier q =
+unfoldable pub figure : Readings → Entries → Earlier → ℤ → ℤ → ℤ
+figure x t earlier q limit =
     Figure
-    (A (w1 (D (x .mean)) (g (t .p) (M (x .mean)))) (w2 (D (x .mean)) (g (t .p) (M (x .mean)))) (heat x t earlier q) (drying x t))
+    (A (w1 (D (x .mean)) (g (t .p) (M (x .mean)))) (w2 (D (x .mean)) (g (t .p) (M (x .mean)))) (heat x t earlier q) (drying x t limit))
     (M (x .mean))

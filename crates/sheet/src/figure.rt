@@ -64,26 +64,26 @@ pub fn heat(x: Readings, t: Entries, earlier: Earlier, q: i64) -> i64
     crate::radiation::available(rn, soil)
 }
 
-// T, of a day.
-pub fn drying(x: Readings, t: Entries) -> i64
-    requires { ⌜ ReadingsInRange x × EntriesInRange t ⌝ }
-    ensures { λ r. ⌜ (r ≡ sheet.drying x t) × InRange quantities.drying r ⌝ }
+// T, of a day at a station with the wind limit.
+pub fn drying(x: Readings, t: Entries, limit: i64) -> i64
+    requires { ⌜ ReadingsInRange x × EntriesInRange t × InRange quantities.windLimit limit ⌝ }
+    ensures { λ r. ⌜ (r ≡ sheet.drying x t limit) × InRange quantities.drying r ⌝ }
 {
     let ea = crate::temperature::vapour_pressure(x.dewpoint);
     let e_maximum = crate::temperature::vapour_pressure(x.maximum);
     let e_minimum = crate::temperature::vapour_pressure(x.minimum);
     let v = crate::wind::deficit(e_maximum, e_minimum, ea);
-    let w = crate::wind::counted_wind(x.wind);
+    let w = crate::wind::counted_wind(limit, x.wind);
     let wf = crate::wind::wind_factor(t.aw, t.bw, w);
     crate::wind::drying(v, wf)
 }
 
 // The figure of a day that is not refused.
-pub fn figure(x: Readings, t: Entries, earlier: Earlier, q: i64) -> i64
-    requires { ⌜ ReadingsInRange x × EntriesInRange t × EarlierInRange earlier × ClearDayAccepted x q ⌝ }
-    ensures { λ r. ⌜ (r ≡ sheet.figure x t earlier q) × InRange quantities.figure r ⌝ }
+pub fn figure(x: Readings, t: Entries, earlier: Earlier, q: i64, limit: i64) -> i64
+    requires { ⌜ ReadingsInRange x × EntriesInRange t × EarlierInRange earlier × ClearDayAccepted x q × InRange quantities.windLimit limit ⌝ }
+    ensures { λ r. ⌜ (r ≡ sheet.figure x t earlier q limit) × InRange quantities.figure r ⌝ }
 {
-    let dry = drying(x, t);
+    let dry = drying(x, t, limit);
     let h = heat(x, t, earlier, q);
     weighed(x.mean, t.p, h, dry)
 }

@@ -4,13 +4,13 @@ ghost use Rattle.numbers.specs.Ranges.{InRange};
 ghost use Rattle.sheet.specs.Quantities as quantities;
 ghost use Rattle.sheet.specs.StepSheet as sheet;
 
-// The wind run that counts.
-pub fn counted_wind(w: i64) -> i64
-    requires { ⌜ InRange quantities.wind w ⌝ }
-    ensures { λ r. ⌜ (r ≡ sheet.countedWind w) × InRange quantities.countedWind r ⌝ }
+// The wind run that counts, by the station's limit.
+pub fn counted_wind(limit: i64, w: i64) -> i64
+    requires { ⌜ InRange quantities.windLimit limit × InRange quantities.wind w ⌝ }
+    ensures { λ r. ⌜ (r ≡ sheet.countedWind limit w) × InRange quantities.countedWind r ⌝ }
 {
-    if w > 1_500 {
-        return 1_500;
+    if w > limit {
+        return limit;
     }
     w
 }

@@ -22,7 +22,7 @@ mean-is flag tenths fits e = e ∙ ap (meanOf flag) (toZ-ofZ fits)
 
 module _ (c : tie.Start) where
   abbrev station : Station
-  station = let x = c .args in stationOf (x .first) (x .second) (x .third) (x .fourth) (x .c1) (x .c2) (x .c3) (x .c4) (x .c5) (x .clear-minimum) (x .elevation)
+  station = let x = c .args in stationOf (x .first) (x .second) (x .third) (x .fourth) (x .c1) (x .c2) (x .c3) (x .c4) (x .c5) (x .clear-minimum) (x .elevation) (x .wind-limit)
 
   abbrev day : Day
   day = let x = c .args in dayOf (x .year) (x .d) (x .maximum) (x .minimum) (x .mean) (x .dewpoint) (x .radiation) (x .wind)
@@ -41,7 +41,7 @@ judged-said c r says =
     let fits = one .before .fits in
     verdict-said
     (λ i. stationOf (x .first) (x .second) (x .third) (x .fourth) (toZ-ofZ (fits .c1) i) (toZ-ofZ (fits .c2) i) (toZ-ofZ (fits .c3) i) (toZ-ofZ (fits .c4) i)
-    (toZ-ofZ (fits .c5) i) (x .clear-minimum) (x .elevation))
+    (toZ-ofZ (fits .c5) i) (x .clear-minimum) (x .elevation) (x .wind-limit))
     (λ i. dayOf (x .year) (x .d) (toZ-ofZ (fits .maximum) i) (toZ-ofZ (fits .minimum) i) (toZ-ofZ (fits .mean) i) (toZ-ofZ (fits .dewpoint) i)
     (toZ-ofZ (fits .radiation) i) (toZ-ofZ (fits .wind) i))
     (λ i. record {

@@ -15,7 +15,7 @@ use Rattle.sheet.proofs.Values.{keep, given-back}
 use Rattle.day.specs.Judgement.{readingsOf, entriesOf, clearOf, figureOf, holds, Answered}
 use Rattle.day.specs.declared.Refusal.{Refusal}
 use Rattle.day.specs.declared.Refusal.the-variants.{StationField, BadDate, OutOfRange, AboveClear}
-use Rattle.day.proofs.Passed.{minimum-low, minimum-high, elevation-high, day-low, day-high, one-passed, two-passed, three-passed, readings-in, entries-in}
+use Rattle.day.proofs.Passed.{minimum-low, minimum-high, elevation-high, limit-in, day-low, day-high, one-passed, two-passed, three-passed, readings-in, entries-in}
 use Rattle.day.proofs.judge.figure.Statement.{statement}
 use Rattle.day.proofs.judge.figure.Tie as tie
 
@@ -57,16 +57,19 @@ clear-of-requires c κs =
 figure-requires : tie.Need-figure-requires
 unfolding readingsOf
 figure-requires c κs =
-    let means = c .before in
+    let clear = c .before in
+    let means = clear .before in
     let t = means .before in
     let x = t .before in
     let s = x .before in
     let radiation = ap (λ r. r .radiation) (x .readings-of .ensures) in
-    let q = given-back (c .clear-of .ensures) tt in (
+    let q = given-back (clear .clear-of .ensures) tt in (
       subst ReadingsInRange (sym (x .readings-of .ensures)) (readings-in (s .args .station) (s .args .day) (s .args .earlier) (none-holds s OutOfRange)),
       subst EntriesInRange (sym (t .entries-at .ensures)) (entries-in (s .args .day .d) (s .args .station .elevation) (low s) (high s) (elevation s)),
       means .earlier-of .ensures .1,
-      record { range = keep (c .clear-of .ensures .1) tt; below = (λ i. sheet.aboveTwiceClear (radiation i) (q i)) ∙ not-above-twice s },
+      record { range = keep (clear .clear-of .ensures .1) tt; below = (λ i. sheet.aboveTwiceClear (radiation i) (q i)) ∙ not-above-twice s },
+      subst (InRange quantities.windLimit) (sym (given-back (c .wide-unsigned .ensures) tt))
+          (limit-in (s .args .station) (s .args .day) (s .args .earlier) (none-holds s StationField)),
     )
 
 figure-in : (c : tie.After-figure) → InRange quantities.figure (readBack (c .figure .result))
@@ -75,16 +78,17 @@ figure-in c = keep (c .figure .ensures .1) tt
 returns : tie.Need-returns
 unfolding figureOf entriesOf
 returns c =
-    let q = given-back (c .before .clear-of .ensures) tt in
-    let means = c .before .before in
+    let limit = given-back (c .before .wide-unsigned .ensures) tt in
+    let q = given-back (c .before .before .clear-of .ensures) tt in
+    let means = c .before .before .before in
     let t = means .before in
     let x = t .before in
     ap natAbs
     (given-back (c .figure .ensures) tt
-    ∙ (λ i. sheet.figure (x .readings-of .ensures i) (t .entries-at .ensures i) (means .earlier-of .ensures .0 i) (q i)))
+    ∙ (λ i. sheet.figure (x .readings-of .ensures i) (t .entries-at .ensures i) (means .earlier-of .ensures .0 i) (q i) (limit i)))
 
 pub figure-spec : {M : Type 1} → statement M
 figure-spec =
     tie.close
     (tie.spec (λ c κs. search needs) (λ c κs. (c .before .pre .0, (low (c .before), high (c .before), elevation (c .before)))) earlier-of-requires clear-of-requires
-    figure-requires (λ c. (is-nonNeg (figure-in c), omega (arith, natAbs-in (figure-in c)))) returns)
+    (λ c κs. search needs) figure-requires (λ c. (is-nonNeg (figure-in c), omega (arith, natAbs-in (figure-in c)))) returns)

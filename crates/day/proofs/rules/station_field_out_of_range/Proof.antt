@@ -1,59 +1,71 @@
--- `day::rules::station_field_out_of_range` meets its contract. Assumes nothing.
-use mathlib.Core.Path.{refl, sym, _∙_}
+-- `day::rules::station_field_out_of_range` meets its contract. `past1` to `past7`: where the tests so far have failed, those to come decide.
+-- Assumes nothing.
+use mathlib.Core.Path.{_≡_, refl, sym, ap, _∙_}
+use mathlib.Core.Bool.{Bool, not}
+use mathlib.Core.List.{List}
+use Prim.Native.Nat.{ℕ}
 use borrow.Author.Needs.{needs}
 use borrow.Author.Tests.{lt-ltb, le-ltb}
+use lib.ListN.{drop}
+use Rattle.day.specs.Rules.{anyOf, stationFaults}
 use Rattle.day.proofs.Tests.{first-here, first-there, any-last}
 use Rattle.day.proofs.rules.station_field_out_of_range.Statement.{statement}
 use Rattle.day.proofs.rules.station_field_out_of_range.Tie as tie
 
+abbrev faults : tie.Start → List Bool
+faults c = let x = c .args in stationFaults (x .first) (x .second) (x .third) (x .fourth) (x .minimum) (x .elevation) (x .limit)
+
+-- the tests from the k-th on decide
+abbrev Decided : ℕ → tie.Start → Type 0
+Decided k c = anyOf (drop k (faults c)) ≡ anyOf (faults c)
+
+past1 : (c : tie.Else1) → Decided 1 (c .before .before)
+past1 c = first-there _ (sym (c .before .not-capital .ensures) ∙ c .if1 .left) refl
+
+past2 : (c : tie.Else2) → Decided 2 (c .before .before .before .before)
+past2 c = first-there _ (sym (c .before .not-capital2 .ensures) ∙ c .if2 .left) refl ∙ past1 (c .before .before)
+
+past3 : (c : tie.Else3) → Decided 3 (c .before .before .before .before .before .before)
+past3 c = first-there _ (sym (c .before .not-capital3 .ensures) ∙ c .if3 .left) refl ∙ past2 (c .before .before)
+
+past4 : (c : tie.Else4) → Decided 4 (c .before .before .before .before .before .before .before .before)
+past4 c = first-there _ (sym (c .before .not-capital4 .ensures) ∙ c .if4 .left) refl ∙ past3 (c .before .before)
+
+past5 : (c : tie.Else5) → Decided 5 (c .before .before .before .before .before .before .before .before .before)
+past5 c = first-there _ (le-ltb _ _ (c .if5 .left)) refl ∙ past4 (c .before)
+
+past6 : (c : tie.Else6) → Decided 6 (c .before .before .before .before .before .before .before .before .before .before)
+past6 c = first-there _ (le-ltb _ _ (c .if6 .left)) refl ∙ past5 (c .before)
+
+past7 : (c : tie.Else7) → Decided 7 (c .before .before .before .before .before .before .before .before .before .before .before)
+past7 c = first-there _ (le-ltb _ _ (c .if7 .left)) refl ∙ past6 (c .before)
+
 returns : tie.Need-returns
-returns c =
-    first-here _ _ (sym (c .before .not-capital .ensures) ∙ c .if1 .taken)
+returns c = first-here _ _ (sym (c .before .not-capital .ensures) ∙ c .if1 .taken)
 
 returns-2 : tie.Need-returns-2
-returns-2 c =
-    first-there _ (sym (c .before .before .before .not-capital .ensures) ∙ c .before .before .if1 .left)
-    (first-here _ _ (sym (c .before .not-capital2 .ensures) ∙ c .if2 .taken))
+returns-2 c = first-here _ _ (sym (c .before .not-capital2 .ensures) ∙ c .if2 .taken) ∙ past1 (c .before .before)
 
 returns-3 : tie.Need-returns-3
-returns-3 c =
-    first-there _ (sym (c .before .before .before .before .before .not-capital .ensures) ∙ c .before .before .before .before .if1 .left)
-    (first-there _ (sym (c .before .before .before .not-capital2 .ensures) ∙ c .before .before .if2 .left)
-    (first-here _ _ (sym (c .before .not-capital3 .ensures) ∙ c .if3 .taken)))
+returns-3 c = first-here _ _ (sym (c .before .not-capital3 .ensures) ∙ c .if3 .taken) ∙ past2 (c .before .before)
 
 returns-4 : tie.Need-returns-4
-returns-4 c =
-    first-there _ (sym (c .before .before .before .before .before .before .before .not-capital .ensures) ∙ c .before .before .before .before .before .before .if1 .left)
-    (first-there _ (sym (c .before .before .before .before .before .not-capital2 .ensures) ∙ c .before .before .before .before .if2 .left)
-    (first-there _ (sym (c .before .before .before .not-capital3 .ensures) ∙ c .before .before .if3 .left)
-    (first-here _ _ (sym (c .before .not-capital4 .ensures) ∙ c .if4 .taken))))
+returns-4 c = first-here _ _ (sym (c .before .not-capital4 .ensures) ∙ c .if4 .taken) ∙ past3 (c .before .before)
 
 returns-5 : tie.Need-returns-5
-returns-5 c =
-    first-there _ (sym (c .before .before .before .before .before .before .before .before .not-capital .ensures) ∙ c .before .before .before .before .before .before .before .if1 .left)
-    (first-there _ (sym (c .before .before .before .before .before .before .not-capital2 .ensures) ∙ c .before .before .before .before .before .if2 .left)
-    (first-there _ (sym (c .before .before .before .before .not-capital3 .ensures) ∙ c .before .before .before .if3 .left)
-    (first-there _ (sym (c .before .before .not-capital4 .ensures) ∙ c .before .if4 .left)
-    (first-here _ _ (lt-ltb _ _ (c .if5 .taken))))))
+returns-5 c = first-here _ _ (lt-ltb _ _ (c .if5 .taken)) ∙ past4 (c .before)
 
 returns-6 : tie.Need-returns-6
-returns-6 c =
-    first-there _ (sym (c .before .before .before .before .before .before .before .before .before .not-capital .ensures) ∙ c .before .before .before .before .before .before .before .before .if1 .left)
-    (first-there _ (sym (c .before .before .before .before .before .before .before .not-capital2 .ensures) ∙ c .before .before .before .before .before .before .if2 .left)
-    (first-there _ (sym (c .before .before .before .before .before .not-capital3 .ensures) ∙ c .before .before .before .before .if3 .left)
-    (first-there _ (sym (c .before .before .before .not-capital4 .ensures) ∙ c .before .before .if4 .left)
-    (first-there _ (le-ltb _ _ (c .before .if5 .left)) (first-here _ _ (lt-ltb _ _ (c .if6 .taken)))))))
+returns-6 c = first-here _ _ (lt-ltb _ _ (c .if6 .taken)) ∙ past5 (c .before)
 
 returns-7 : tie.Need-returns-7
-returns-7 c =
-    first-there _ (sym (c .before .before .before .before .before .before .before .before .before .not-capital .ensures) ∙ c .before .before .before .before .before .before .before .before .if1 .left)
-    (first-there _ (sym (c .before .before .before .before .before .before .before .not-capital2 .ensures) ∙ c .before .before .before .before .before .before .if2 .left)
-    (first-there _ (sym (c .before .before .before .before .before .not-capital3 .ensures) ∙ c .before .before .before .before .if3 .left)
-    (first-there _ (sym (c .before .before .before .not-capital4 .ensures) ∙ c .before .before .if4 .left)
-    (first-there _ (le-ltb _ _ (c .before .if5 .left)) (first-there _ (le-ltb _ _ (c .if6 .left)) (any-last _ refl))))))
+returns-7 c = first-here _ _ (lt-ltb _ _ (c .if7 .taken)) ∙ past6 (c .before)
+
+returns-8 : tie.Need-returns-8
+returns-8 c = any-last _ (ap not (c .in-range .ensures)) ∙ past7 (c .before)
 
 pub station-field-out-of-range-spec : {M : Type 1} → statement M
 station-field-out-of-range-spec =
     tie.close
     (tie.spec (λ c κs. search needs) returns (λ c κs. search needs) returns-2 (λ c κs. search needs) returns-3 (λ c κs. search needs) returns-4 returns-5
-    returns-6 returns-7)
+    returns-6 returns-7 (λ c κs. search needs) returns-8)

@@ -25,7 +25,7 @@ returns c =
           (given-back (dew .vapour-pressure .ensures) tt ∙ ap e (read (s .pre .0 .dewpoint) tt)))
           (given-back (factor .wind-factor .ensures) tt
           ∙ ap₃ Wf (read (s .pre .1 .aw) tt) (read (s .pre .1 .bw) tt)
-          (given-back (run .counted-wind .ensures) tt ∙ ap countedWind (read (s .pre .0 .wind) tt))),
+          (given-back (run .counted-wind .ensures) tt ∙ ap₂ countedWind (read (s .pre .2) tt) (read (s .pre .0 .wind) tt))),
       search needs,
     )
 

@@ -2,7 +2,7 @@
 use mathlib.Core.Path.{_∙_, ap}
 use borrow.Author.Needs.{needs}
 use Rattle.sheet.specs.Parts.{weighed}
-use Rattle.sheet.specs.StepSheet.{heat, figure}
+use Rattle.sheet.specs.StepSheet.{heat, drying, figure}
 use Rattle.sheet.proofs.Values.{read, given-back}
 use Rattle.sheet.proofs.figure.figure.Statement.{statement}
 use Rattle.sheet.proofs.figure.figure.Tie as tie
@@ -16,7 +16,7 @@ returns c =
     let m = read (s .pre .0 .mean) tt in
     let p = read (s .pre .1 .p) tt in
     let h = given-back (warm .heat .ensures) tt ∙ ap (heat _ _ _) (read (s .pre .3 .range) tt) in
-    let t = given-back (dry .drying .ensures) tt in
+    let t = given-back (dry .drying .ensures) tt ∙ ap (drying _ _) (read (s .pre .4) tt) in
     (given-back (c .weighed .ensures) tt ∙ (λ i. weighed (m i) (p i) (h i) (t i)), search needs)
 
 pub figure-spec : {M : Type 1} → statement M
