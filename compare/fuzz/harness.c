@@ -30,11 +30,18 @@ enum {
     /* Room for every report, and for some bytes more. */
     TEXT_ROOM = 33 * PAGE,
     STATION_LENGTH = 19,
+    LIMITED_STATION_LENGTH = 21,
     DAY_LENGTH = 17,
     CROP_LENGTH = 22,
     STATION_ANSWER_LENGTH = 5,
     /* A day's answer and a crop's. */
     FIGURE_ANSWER_LENGTH = 9,
+    /* The limit of a station of kind 1. */
+    ROUTINE_LIMIT = 1500,
+    /* No wind run in range is higher. */
+    HIGHEST_WIND = 9999,
+    UNKNOWN_KIND = 1,
+    BAD_STATION = 3,
     TOO_SHORT_A_BUFFER = 12,
     BAD_CROP = 13,
     INPUTS_A_PROCESS = 2000,
@@ -85,13 +92,43 @@ static uint32_t number(const uint8_t *bytes, int width) {
 static uint16_t plain(const uint8_t *bytes) { return (uint16_t)number(bytes, 2); }
 static int16_t tenths(const uint8_t *bytes) { return (int16_t)number(bytes, 2); }
 
+static bool capitals(const uint8_t *letters) {
+    bool good = true;
+    for (int i = 0; i < 4; i++) {
+        good = good && letters[i] >= 'A' && letters[i] <= 'Z';
+    }
+    return good;
+}
+
+static bool is_station(const uint8_t *record) { return record[0] == 1 || record[0] == 8; }
+
+static uint16_t wind_limit(const uint8_t *station) { return station[0] == 8 ? plain(station + 19) : ROUTINE_LIMIT; }
+
+static bool station_in_range(const uint8_t *station) {
+    uint16_t minimum = plain(station + 15), elevation = plain(station + 17), limit = wind_limit(station);
+    return capitals(station + 1) && minimum >= 50 && minimum <= 200 && elevation <= 3000 && limit >= 1000 &&
+           limit <= ROUTINE_LIMIT;
+}
+
+/* The day handed in alone, with this limit and this wind run. */
+static uint64_t judge(const uint8_t *station, uint16_t limit, const uint8_t *day, int16_t wind) {
+    const uint8_t *s = station + 1, *d = day + 1;
+    return fuortwem_judge(
+        s[0], s[1], s[2], s[3], tenths(s + 4), tenths(s + 6), tenths(s + 8), tenths(s + 10), tenths(s + 12), plain(s + 14),
+        plain(s + 16), limit, plain(d), plain(d + 2), tenths(d + 4), tenths(d + 6), tenths(d + 8), tenths(d + 10),
+        tenths(d + 12), wind, 0, 0, 0, 0, 0, 0);
+}
+
 /* The first day of a block has no earlier means and no earlier date: handed in alone it must be answered the same. */
 static void judge_first_day(const uint8_t *station, const uint8_t *day, const uint8_t *answer) {
-    const uint8_t *s = station + 1, *d = day + 1;
-    uint64_t returned = fuortwem_judge(
-        s[0], s[1], s[2], s[3], tenths(s + 4), tenths(s + 6), tenths(s + 8), tenths(s + 10), tenths(s + 12), plain(s + 14),
-        plain(s + 16), plain(d), plain(d + 2), tenths(d + 4), tenths(d + 6), tenths(d + 8), tenths(d + 10), tenths(d + 12),
-        tenths(d + 14), 0, 0, 0, 0, 0, 0);
+    const uint8_t *d = day + 1;
+    uint16_t limit = wind_limit(station);
+    int16_t wind = tenths(d + 14);
+    uint64_t returned = judge(station, limit, day, wind);
+    if (wind > limit && wind <= HIGHEST_WIND) {
+        uint64_t at_limit = judge(station, ROUTINE_LIMIT, day, (int16_t)limit);
+        require(returned == at_limit, "a wind run above the limit counts as the limit");
+    }
     uint32_t kind = refusal(returned) == 0 ? 3 : 4;
     uint32_t verdict = refusal(returned) == 0 ? value(returned) : refusal(returned);
     require(answer[0] == kind && memcmp(answer + 1, d, 4) == 0, "a day's answer begins with its kind and date");
@@ -108,11 +145,9 @@ static struct crop crop_of(const uint8_t *record) {
     return (struct crop){record + 1, record + 11, plain(record + 5), plain(record + 7), plain(record + 9)};
 }
 
-static bool in_range(struct crop crop) {
-    bool good = crop.year >= 1950 && crop.year <= 2099 && crop.start >= 1 && crop.full > crop.start && crop.full <= 365;
-    for (int i = 0; i < 4; i++) {
-        good = good && crop.letters[i] >= 'A' && crop.letters[i] <= 'Z';
-    }
+static bool crop_in_range(struct crop crop) {
+    bool good = capitals(crop.letters) && crop.year >= 1950 && crop.year <= 2099 && crop.start >= 1 &&
+                crop.full > crop.start && crop.full <= 365;
     for (int i = 0; i <= 10; i++) {
         good = good && crop.percentages[i] <= 200;
     }
@@ -141,15 +176,16 @@ static void check_answers(const uint8_t *log, size_t log_length, const uint8_t *
     const uint8_t *end = log + log_length, *station = NULL, *crop = NULL, *answer = answers;
     bool first = false;
     while (log < end) {
-        if (log[0] == 1) {
+        if (is_station(log)) {
+            require(station_in_range(log), "an accepted log's stations are in range");
             require(answer[0] == 5 && memcmp(answer + 1, log + 1, 4) == 0, "a station's answer is its code");
             station = log;
             crop = NULL;
             first = true;
-            log += STATION_LENGTH;
+            log += log[0] == 8 ? LIMITED_STATION_LENGTH : STATION_LENGTH;
             answer += STATION_ANSWER_LENGTH;
         } else if (log[0] == 6) {
-            require(in_range(crop_of(log)), "an accepted log's crops are in range");
+            require(crop_in_range(crop_of(log)), "an accepted log's crops are in range");
             crop = log;
             log += CROP_LENGTH;
         } else {
@@ -291,9 +327,15 @@ static void try_input(const uint8_t *input, size_t size, bool in_heap) {
     uint64_t unlent = fuortwem_read_log(last_log, log_length, end, 0);
     bool sound = refusal(unlent) == 0 || refusal(unlent) == TOO_SHORT_A_BUFFER;
     require(refusal(unlent) <= 5 || sound || refusal(unlent) == BAD_CROP, "a log's refusal is 1 to 5, 12 or 13");
+    const uint8_t *refused = last_log + (sound ? 0 : value(unlent));
+    if (refusal(unlent) == UNKNOWN_KIND) {
+        require(!is_station(refused) && refused[0] != 2 && refused[0] != 6, "1 is for a kind that is none of 1, 2, 6 and 8");
+    }
+    if (refusal(unlent) == BAD_STATION) {
+        require(is_station(refused) && !station_in_range(refused), "3 is for a station out of range");
+    }
     if (refusal(unlent) == BAD_CROP) {
-        const uint8_t *record = last_log + value(unlent);
-        require(record[0] == 6 && !in_range(crop_of(record)), "13 is for a crop out of range");
+        require(refused[0] == 6 && !crop_in_range(crop_of(refused)), "13 is for a crop out of range");
     }
     require((refusal(unlent) == 0) == (log_length == 0), "without a buffer only the empty log is accepted");
 

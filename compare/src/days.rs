@@ -1,8 +1,9 @@
 //! The days and logs to compare on, from a seeded generator: the same seed gives the same days everywhere.
 use crate::second::judge;
 use crate::second::sheet::clear_day;
-use crate::{Crop, Day, Earlier, Station, Verdict};
+use crate::{Crop, Day, Earlier, Station, Verdict, ROUTINE_LIMIT};
 use std::collections::BTreeSet;
+use std::ops::RangeInclusive;
 
 /// The generator splitmix64.
 pub struct Random(u64);
@@ -54,6 +55,19 @@ struct Field<Of> {
     special: &'static [i64],
 }
 
+impl<Of> Field<Of> {
+    /// The ends of the range, one beyond each, and the special values.
+    fn edges(&self) -> Vec<i64> {
+        let ends = [self.low - 1, self.low, self.high, self.high + 1];
+        [&ends[..], self.special].concat()
+    }
+
+    /// Every value of the range, and one beyond each end.
+    fn values(&self) -> RangeInclusive<i64> {
+        self.low - 1..=self.high + 1
+    }
+}
+
 const fn field<Of>(
     set: fn(&mut Of, i64),
     low: i64,
@@ -80,7 +94,19 @@ const fn temperature(set: fn(&mut Case, i64)) -> Field<Case> {
     field(set, -94, 1_291, &[-32_768, -32_767, 32_767, -160, 320])
 }
 
-const FIELDS: [Field<Case>; 24] = [
+/// No limit is below; the routine's is the highest.
+const LOWEST_LIMIT: u16 = 1_000;
+
+const fn wind_limit(set: fn(&mut Case, i64)) -> Field<Case> {
+    // 33,768 is the lowest limit with the highest bit set.
+    let (low, high) = (LOWEST_LIMIT as i64, ROUTINE_LIMIT as i64);
+    field(set, low, high, &[0, 33_768, 65_535])
+}
+
+/// The first fields of a case are its station's.
+const STATION_FIELDS: usize = 12;
+
+const FIELDS: [Field<Case>; 26] = [
     letter(|case, value| case.station.code[0] = value as u8),
     letter(|case, value| case.station.code[1] = value as u8),
     letter(|case, value| case.station.code[2] = value as u8),
@@ -102,6 +128,11 @@ const FIELDS: [Field<Case>; 24] = [
         3_000,
         &[32_768, 65_535],
     ),
+    wind_limit(|case, value| case.station.wind_limit = value as u16),
+    wind_limit(|case, value| {
+        case.station.wind_limit = value as u16;
+        case.day.wind = (value + 1) as i16;
+    }),
     field(
         |case, value| case.day.year = value as u16,
         1_950,
@@ -133,7 +164,14 @@ const FIELDS: [Field<Case>; 24] = [
         |case, value| case.day.wind = value as i16,
         0,
         9_999,
-        &[-32_768, 1_500, 1_501, 32_767],
+        &[
+            -32_768,
+            LOWEST_LIMIT as i64,
+            LOWEST_LIMIT as i64 + 1,
+            ROUTINE_LIMIT as i64,
+            ROUTINE_LIMIT as i64 + 1,
+            32_767,
+        ],
     ),
     temperature(|case, value| case.earlier[0] = Some(value as i16)),
     temperature(|case, value| case.earlier[1] = Some(value as i16)),
@@ -199,6 +237,15 @@ fn capitals(random: &mut Random) -> [u8; 4] {
     [0; 4].map(|_: u8| random.between(b'A'.into(), b'Z'.into()) as u8)
 }
 
+/// A limit in range.
+fn limit(random: &mut Random) -> u16 {
+    match random.below(3) {
+        0 => ROUTINE_LIMIT,
+        1 => random.pick(&[LOWEST_LIMIT, LOWEST_LIMIT + 1, ROUTINE_LIMIT - 1]),
+        _ => random.between(LOWEST_LIMIT.into(), ROUTINE_LIMIT.into()) as u16,
+    }
+}
+
 fn station(random: &mut Random) -> Station {
     let c = match random.below(8) {
         0 => [0; 5].map(|_: i16| random.bits() as i16),
@@ -214,6 +261,7 @@ fn station(random: &mut Random) -> Station {
         c,
         minimum: random.between(50, 200) as u16,
         elevation: random.between(0, 3_000) as u16,
+        wind_limit: limit(random),
     }
 }
 
@@ -286,7 +334,7 @@ fn ordinary(random: &mut Random, station: Station, (year, d): (u16, u16)) -> Cas
     };
     let wind = match random.below(4) {
         0 => random.between(0, 9_999),
-        1 => random.between(1_498, 1_503),
+        1 => i64::from(station.wind_limit) + random.between(-2, 3),
         _ => random.between(0, 1_600),
     };
     let earlier = [0; 3].map(|_: i16| match random.below(8) {
@@ -315,9 +363,7 @@ fn ordinary(random: &mut Random, station: Station, (year, d): (u16, u16)) -> Cas
 fn to_corners(random: &mut Random, case: &mut Case) {
     for _ in 0..random.between(1, 3) {
         let field = &FIELDS[random.below(FIELDS.len())];
-        let ends = [field.low - 1, field.low, field.high, field.high + 1];
-        let values = [&ends[..], field.special].concat();
-        (field.set)(case, random.pick(&values));
+        (field.set)(case, random.pick(&field.edges()));
     }
 }
 
@@ -370,6 +416,7 @@ fn anything(random: &mut Random) -> Case {
             c: [number(), number(), number(), number(), number()],
             minimum: number() as u16,
             elevation: number() as u16,
+            wind_limit: number() as u16,
         },
         day: Day {
             year: number() as u16,
@@ -418,6 +465,7 @@ pub fn halves() -> [Case; 2] {
             c: PUBLISHED[0],
             minimum: 100,
             elevation: 497,
+            wind_limit: ROUTINE_LIMIT,
         },
         day: Day {
             year: 2007,
@@ -443,7 +491,7 @@ pub fn sweep(random: &mut Random) -> impl Iterator<Item = Case> {
     let date = date(random);
     let kept = ordinary(random, station, date);
     FIELDS.iter().flat_map(move |field| {
-        (field.low - 1..=field.high + 1).map(move |value| {
+        field.values().map(move |value| {
             let mut case = kept;
             (field.set)(&mut case, value);
             case
@@ -451,12 +499,24 @@ pub fn sweep(random: &mut Random) -> impl Iterator<Item = Case> {
     })
 }
 
-pub fn station_record(station: &Station) -> [u8; 19] {
-    let mut record = [1; 19];
+/// Kind 1 for a station with the routine's limit, and kind 8 for one that has another.
+pub fn station_record(station: &Station) -> Vec<u8> {
+    let limited = limited_record(station);
+    if station.wind_limit == ROUTINE_LIMIT {
+        [&[1], &limited[1..19]].concat()
+    } else {
+        limited.to_vec()
+    }
+}
+
+/// Kind 8, whatever the limit.
+pub fn limited_record(station: &Station) -> [u8; 21] {
+    let mut record = [8; 21];
     record[1..5].copy_from_slice(&station.code);
     let [c1, c2, c3, c4, c5] = station.c.map(|c| c as u16);
-    let numbers = [c1, c2, c3, c4, c5, station.minimum, station.elevation];
-    fill(&mut record[5..], &numbers);
+    let further = [station.minimum, station.elevation, station.wind_limit];
+    fill(&mut record[5..15], &[c1, c2, c3, c4, c5]);
+    fill(&mut record[15..], &further);
     record
 }
 
@@ -505,40 +565,45 @@ fn next_date(random: &mut Random, (year, d): (u16, u16)) -> (u16, u16) {
     }
 }
 
-/// How many records of each kind a log has.
-#[derive(Clone, Copy)]
+/// How many records of each kind a log has; of its stations, `limited` are of kind 8.
 struct Records {
     stations: usize,
+    limited: usize,
     crops: usize,
     days: usize,
 }
 
-/// A log with so many records of each kind, all of them in order; its days are those of `case`.
-fn log(random: &mut Random, records: Records) -> Vec<u8> {
-    let Records {
-        mut stations,
-        mut crops,
-        mut days,
-    } = records;
-    let mut log = Vec::with_capacity(19 * stations + 22 * crops + 17 * days);
-    let mut block = station(random);
-    let mut today = date(random);
-    log.extend(station_record(&block));
-    stations -= 1;
-    while stations + crops + days > 0 {
-        let next = random.below(stations + crops + days);
-        if next < stations {
-            block = station(random);
-            today = date(random);
+impl Records {
+    /// Takes one of the stations, of either kind, and opens its block, whose days follow the date.
+    fn open(&mut self, random: &mut Random, log: &mut Vec<u8>) -> (Station, (u16, u16)) {
+        let mut block = station(random);
+        if random.below(self.stations) < self.limited {
+            self.limited -= 1;
+            log.extend(limited_record(&block));
+        } else {
+            block.wind_limit = ROUTINE_LIMIT;
             log.extend(station_record(&block));
-            stations -= 1;
-        } else if next < stations + crops {
+        }
+        self.stations -= 1;
+        (block, date(random))
+    }
+}
+
+/// A log with so many records of each kind, all of them in order; its days are those of `case`.
+fn log(random: &mut Random, mut left: Records) -> Vec<u8> {
+    let mut log = Vec::with_capacity(21 * left.stations + 22 * left.crops + 17 * left.days);
+    let (mut block, mut today) = left.open(random, &mut log);
+    while left.stations + left.crops + left.days > 0 {
+        let next = random.below(left.stations + left.crops + left.days);
+        if next < left.stations {
+            (block, today) = left.open(random, &mut log);
+        } else if next < left.stations + left.crops {
             log.extend(crop_record(&crop(random, today)));
-            crops -= 1;
+            left.crops -= 1;
         } else {
             today = next_date(random, today);
             log.extend(day_record(&case_of(random, block, today).day));
-            days -= 1;
+            left.days -= 1;
         }
     }
     log
@@ -547,25 +612,28 @@ fn log(random: &mut Random, records: Records) -> Vec<u8> {
 /// A log without a fault of up to so many days.
 pub fn sound_log(random: &mut Random, most: usize) -> Vec<u8> {
     let days = random.below(most);
+    let stations = 1 + random.below(days / 8 + 1);
     let records = Records {
-        stations: 1 + random.below(days / 8 + 1),
+        stations,
+        limited: random.below(stations + 1),
         crops: random.below(days / 6 + 2),
         days,
     };
     log(random, records)
 }
 
-/// A log without a fault that is just so many bytes long, where up to fifty crops and records of 19 and 17 bytes can make
-/// that up.
+/// A log without a fault that is just so many bytes long, where up to fifty crops, up to fifty stations of kind 8 and
+/// records of 19 and 17 bytes can make that up.
 pub fn log_of_length(random: &mut Random, length: usize) -> Option<Vec<u8>> {
-    let crops = random.below(51);
-    let rest = length.checked_sub(22 * crops)?;
-    let fits = |stations: &usize| (rest - 19 * stations).is_multiple_of(17);
-    let stations = (1..=rest / 19).find(fits)?;
+    let (crops, limited) = (random.below(51), random.below(51));
+    let rest = length.checked_sub(22 * crops + 21 * limited)?;
+    let fits = |others: &usize| (rest - 19 * others).is_multiple_of(17);
+    let others = (1..=rest / 19).find(fits)?;
     let records = Records {
-        stations,
+        stations: limited + others,
+        limited,
         crops,
-        days: (rest - 19 * stations) / 17,
+        days: (rest - 19 * others) / 17,
     };
     Some(log(random, records))
 }
@@ -580,11 +648,14 @@ fn answered(random: &mut Random, station: Station, date: (u16, u16)) -> Day {
     }
 }
 
-/// One station, and a crop for each year's days from 1 to 365: with eleven crops, 3,839 days fit, each with a figure and
-/// a crop figure. No log has longer answers; nor a longer report, as long as no crop figure has ten inches.
+/// One station of kind 1, and a crop for each year's days from 1 to 365: with eleven crops, 3,839 days fit, each with a
+/// figure and a crop figure. No log has longer answers; nor a longer report, as long as no crop figure has ten inches.
 pub fn answered_log(random: &mut Random) -> Vec<u8> {
-    let station = station(random);
-    let mut log = station_record(&station).to_vec();
+    let station = Station {
+        wind_limit: ROUTINE_LIMIT,
+        ..station(random)
+    };
+    let mut log = station_record(&station);
     let dates = (1_950..=2_099).flat_map(|year| (1..=365).map(move |d| (year, d)));
     for (year, d) in dates.take(3_839) {
         if d == 1 {
@@ -607,7 +678,7 @@ fn log_about(random: &mut Random, station: Station, crop: &Crop) -> Vec<u8> {
     let ends = [crop.start, crop.full].into_iter();
     let about_ends = ends.flat_map(|d| [d.saturating_sub(1), d, d.saturating_add(1)]);
     let dates: BTreeSet<u16> = stages.chain(about_ends).collect();
-    let mut log = station_record(&station).to_vec();
+    let mut log = station_record(&station);
     log.extend(crop_record(crop));
     for d in dates {
         log.extend(day_record(&ordinary(random, station, (crop.year, d)).day));
@@ -631,9 +702,10 @@ pub fn crop_edges(random: &mut Random) -> Vec<Vec<u8>> {
         start,
         ..crop(random, (year, start))
     };
+    let opening = station_record(&station).len();
     let mut logs = Vec::new();
     for field in &CROP_FIELDS {
-        for value in (field.low - 1..=field.high + 1).chain(field.special.iter().copied()) {
+        for value in field.values().chain(field.special.iter().copied()) {
             let mut crop = kept;
             (field.set)(&mut crop, value);
             logs.push(log_about(random, station, &crop));
@@ -648,9 +720,62 @@ pub fn crop_edges(random: &mut Random) -> Vec<Vec<u8>> {
             ..kept
         };
         let whole = log_about(random, station, &crop);
-        logs.push(whole[..19 + 21].to_vec());
-        logs.push(whole[19..].to_vec());
+        logs.push(whole[..opening + 21].to_vec());
+        logs.push(whole[opening..].to_vec());
         logs.push(whole);
+    }
+    logs
+}
+
+/// Logs of one station and days with wind runs below its limit, at it and above: each field of the station at its edges,
+/// and every limit of the range and one beyond. Each is of kind 8, and of kind 1 where the limit is the routine's; it
+/// stands alone, behind a block with the lowest limit, and cut off before its limit and inside.
+pub fn station_edges(random: &mut Random) -> Vec<Vec<u8>> {
+    let station = Station {
+        wind_limit: ROUTINE_LIMIT,
+        ..station(random)
+    };
+    let days = [180, 181, 182, 183].map(|d| answered(random, station, (2_008, d)));
+    let block = |station: &Station, record: &[u8]| {
+        let mut block = record.to_vec();
+        for (day, above) in days.iter().zip([-1, 0, 1, 250]) {
+            let wind = (i64::from(station.wind_limit) + above) as i16;
+            block.extend(day_record(&Day { wind, ..*day }));
+        }
+        block
+    };
+    let limits = LOWEST_LIMIT - 1..=ROUTINE_LIMIT + 1;
+    let mut stations: Vec<Station> = limits
+        .map(|wind_limit| Station {
+            wind_limit,
+            ..station
+        })
+        .collect();
+    for field in &FIELDS[..STATION_FIELDS] {
+        stations.extend(field.edges().iter().map(|&value| {
+            let mut case = Case {
+                station,
+                day: days[0],
+                earlier: [None; 3],
+            };
+            (field.set)(&mut case, value);
+            case.station
+        }));
+    }
+    let lowest = Station {
+        wind_limit: LOWEST_LIMIT,
+        ..station
+    };
+    let before = block(&lowest, &station_record(&lowest));
+    let mut logs = Vec::new();
+    for station in &stations {
+        let limited = limited_record(station);
+        for record in BTreeSet::from([station_record(station), limited.to_vec()]) {
+            let whole = block(station, &record);
+            logs.push([&before[..], &whole].concat());
+            logs.push(whole);
+        }
+        logs.extend([19, 20].map(|end| limited[..end].to_vec()));
     }
     logs
 }
@@ -666,7 +791,7 @@ pub fn damaged(random: &mut Random, mut log: Vec<u8>) -> Vec<u8> {
         match random.below(7) {
             0 => log[at] ^= 1 << random.below(8),
             1 => log[at] = random.bits() as u8,
-            2 => log.insert(at, random.pick(&[0, 1, 2, 3, 6, 7, 255])),
+            2 => log.insert(at, random.pick(&[0, 1, 2, 3, 6, 7, 8, 255])),
             3 => drop(log.remove(at)),
             4 => log.swap(at, other),
             5 => log.truncate(at),
@@ -682,7 +807,7 @@ pub fn loose_bytes(random: &mut Random, most: usize) -> Vec<u8> {
     (0..length)
         .map(|_| match random.below(3) {
             0 => random.bits() as u8,
-            _ => random.pick(&[1, 2, 6]),
+            _ => random.pick(&[1, 2, 6, 8]),
         })
         .collect()
 }

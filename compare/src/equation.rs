@@ -1,4 +1,5 @@
-//! The unrounded equation of scope document 01 in double precision. It takes nothing from the step sheet.
+//! The unrounded equation of scope document 01, with the wind limits of W2, in double precision. It takes nothing from the
+//! step sheet.
 use crate::{Day, Earlier, Station};
 
 fn fahrenheit(tenths: i16) -> f64 {
@@ -68,7 +69,7 @@ pub fn inches(station: &Station, day: &Day, earlier: &Earlier) -> f64 {
         0.377 * (celsius(day.mean) - present.iter().sum::<f64>() / present.len() as f64)
     };
 
-    let u = (f64::from(day.wind) / 10.0).min(150.0);
+    let u = (f64::from(day.wind) / 10.0).min(f64::from(station.wind_limit) / 10.0);
     let deficit = (vapour_pressure(day.maximum) + vapour_pressure(day.minimum)) / 2.0 - ea;
     let t = 6.43 * (aw + 1.6093 * bw * u) * deficit;
 
@@ -86,5 +87,17 @@ mod tests {
             let value = inches(&case.station, &case.day, &case.earlier);
             assert!((value - expected).abs() < 1e-14);
         }
+    }
+
+    #[test]
+    fn a_wind_run_above_the_limit_counts_as_the_limit() {
+        let [mut case, _] = crate::days::halves();
+        let mut value = |wind_limit, wind| {
+            (case.station.wind_limit, case.day.wind) = (wind_limit, wind);
+            inches(&case.station, &case.day, &case.earlier)
+        };
+        assert_eq!(value(1_000, 1_001), value(1_500, 1_000));
+        assert_eq!(value(1_000, 999), value(1_500, 999));
+        assert!(value(1_001, 1_001) > value(1_000, 1_001));
     }
 }

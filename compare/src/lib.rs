@@ -9,13 +9,25 @@ pub mod second;
 mod table_rows;
 pub mod table_text;
 
-/// A station: its code, c1 to c5, the clear-day minimum and the elevation, in the log's units.
+/// A station: its code, c1 to c5, the clear-day minimum, the elevation and the wind limit, in the log's units. A wind run
+/// above the limit counts as the limit.
 #[derive(Clone, Copy, Debug, PartialEq, Eq)]
 pub struct Station {
     pub code: [u8; 4],
     pub c: [i16; 5],
     pub minimum: u16,
     pub elevation: u16,
+    pub wind_limit: u16,
+}
+
+/// The published routine's wind limit, in tenths: that of every station of kind 1, and the highest that one of kind 8 has.
+pub const ROUTINE_LIMIT: u16 = 1_500;
+
+impl Station {
+    /// Whether this day's wind run counts as less than it does by the routine's limit.
+    pub fn limits(&self, day: &Day) -> bool {
+        self.wind_limit < ROUTINE_LIMIT && i32::from(day.wind) > self.wind_limit.into()
+    }
 }
 
 /// A day: its date and six readings in tenths.

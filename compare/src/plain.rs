@@ -1,7 +1,7 @@
 //! The step sheet and its refusals in plain i64, as one would write them without a proof: what the proved library's speed
 //! is measured against. By the ranges of the readings every intermediate value fits in i64, with a factor of two to spare
 //! at the narrowest place, the square of V4.
-use crate::{Day, Earlier, Station, Verdict};
+use crate::{Day, Earlier, Station, Verdict, ROUTINE_LIMIT};
 use std::ops::RangeInclusive;
 
 // ALBEDO, A1, AW, BW and PRESSURE, from the sources of the library's tables.
@@ -12,6 +12,7 @@ const RADIATION: RangeInclusive<i16> = 0..=12_000;
 const WIND: RangeInclusive<i16> = 0..=9_999;
 const CLEAR_MINIMUM: RangeInclusive<u16> = 50..=200;
 const ELEVATION: RangeInclusive<u16> = 0..=3_000;
+const WIND_LIMIT: RangeInclusive<u16> = 1_000..=ROUTINE_LIMIT;
 const YEAR: RangeInclusive<u16> = 1_950..=2_099;
 const MISSING: i16 = -32_768;
 
@@ -74,7 +75,7 @@ fn figure(station: &Station, day: &Day, earlier: &Earlier) -> Result<u32, u32> {
     let net_radiation = (BILLION - i64::from(ALBEDO[of_day])) * (41_868 * s) / BILLION - longwave;
     let heat = net_radiation - soil_heat(m, earlier);
 
-    let wind = i64::from(day.wind).min(1_500);
+    let wind = i64::from(day.wind).min(station.wind_limit.into());
     let wind_function = i64::from(AW[of_day]) + i64::from(BW[of_day]) * 16_093 * wind / 100_000;
     let deficit = (at_maximum + at_minimum) / 2 - at_dewpoint;
     let transfer = deficit / 100 * wind_function / BILLION * 643 / 100;
@@ -99,6 +100,7 @@ fn station_in_range(station: &Station) -> bool {
     station.code.iter().all(u8::is_ascii_uppercase)
         && CLEAR_MINIMUM.contains(&station.minimum)
         && ELEVATION.contains(&station.elevation)
+        && WIND_LIMIT.contains(&station.wind_limit)
 }
 
 fn good_date(year: u16, d: u16) -> bool {

@@ -1,10 +1,11 @@
 //! A third opinion: the formulas of the published routine ETPCOMP (source document 000) with its constants, order
 //! and names, in double precision where the routine has single precision.
 //!
-//! Known differences from scope document 01, which decides:
+//! Known differences from scope document 01 and its change requests, which decide:
 //! - the routine caps the ratio of radiation to clear-day radiation at one;
 //! - its day number X has no leap day: 29 February and 1 March share 60, and later days are one lower;
-//! - it tests 0.70 on the computed ratio, so a ratio of just 0.70 may fall on either side.
+//! - it tests 0.70 on the computed ratio, so a ratio of just 0.70 may fall on either side;
+//! - its wind limit is 150 miles for every station.
 //!
 //! It refuses missing readings only. The guards ABS(VAPDP) and RSO = 0 never act within the accepted ranges.
 use crate::{Day, Earlier, Station};
@@ -15,16 +16,21 @@ pub enum Known {
     Ceiling,
     LeapDay,
     Border,
+    WindLimit,
     Several,
 }
 
 impl Known {
-    pub const ALL: [(Known, &str); 5] = [
+    pub const ALL: [(Known, &str); 6] = [
         (Known::Nothing, "no known difference"),
         (Known::Ceiling, "ratio above the routine's ceiling of one"),
         (Known::LeapDay, "after 29 February, which X does not count"),
         (Known::Border, "ratio within 1e-9 of 0.70"),
-        (Known::Several, "more than one of these three"),
+        (
+            Known::WindLimit,
+            "wind run above a station's limit below the routine's 150 miles",
+        ),
+        (Known::Several, "more than one of these four"),
     ];
 }
 
@@ -108,12 +114,16 @@ pub fn etpcomp(station: &Station, day: &Day, earlier: &Earlier) -> Opinion {
     let wf = aw + bw * u2;
 
     let etp_lamb = fact1 * (rn - htflux) + fact2 * 6.43 * wf * vapde;
-    let border = (ratio - 0.70).abs() < 1e-9;
-    let known = match (ratio > 1.0, after_leap_day, border) {
-        (false, false, false) => Known::Nothing,
-        (true, false, false) => Known::Ceiling,
-        (false, true, false) => Known::LeapDay,
-        (false, false, true) => Known::Border,
+    let differences = [
+        (ratio > 1.0, Known::Ceiling),
+        (after_leap_day, Known::LeapDay),
+        ((ratio - 0.70).abs() < 1e-9, Known::Border),
+        (station.limits(day), Known::WindLimit),
+    ];
+    let mut acting = differences.iter().filter(|(acts, _)| *acts);
+    let known = match (acting.next(), acting.next()) {
+        (None, _) => Known::Nothing,
+        (Some((_, one)), None) => *one,
         _ => Known::Several,
     };
     Opinion {
@@ -144,5 +154,19 @@ mod tests {
         (case.day.year, case.day.d) = (2008, case.day.d + 1);
         let opinion = etpcomp(&case.station, &case.day, &case.earlier);
         assert!(opinion.known == Known::LeapDay && opinion.inches == before);
+    }
+
+    #[test]
+    fn the_limit_of_a_station_is_not_known() {
+        let [mut case, _] = halves();
+        let mut known = |wind_limit, wind, year| {
+            case.station.wind_limit = wind_limit;
+            (case.day.wind, case.day.year) = (wind, year);
+            etpcomp(&case.station, &case.day, &case.earlier).known
+        };
+        assert!(known(1_000, 1_000, 2007) == Known::Nothing);
+        assert!(known(1_000, 1_001, 2007) == Known::WindLimit);
+        assert!(known(1_000, 1_001, 2008) == Known::Several);
+        assert!(known(1_500, 1_501, 2007) == Known::Nothing);
     }
 }

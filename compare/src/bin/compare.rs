@@ -3,9 +3,10 @@
 //! The environment variable REPORT_PROGRAM names a report program other than ../target/bin/report.
 use compare::days::{self, Case, Random};
 use compare::routine::{self, Known};
-use compare::second::crop::{self, REASONS};
 use compare::second::log::Judged;
+use compare::second::{crop, station, Reason};
 use compare::{equation, office, second, table_text, Outcome, Verdict};
+use std::collections::BTreeMap;
 use std::fmt::Debug;
 use std::io::{ErrorKind, Write};
 use std::path::{Path, PathBuf};
@@ -18,7 +19,7 @@ struct Size {
     logs: u64,
     cut_logs: u64,
     full_logs: u64,
-    crop_edges: u64,
+    edges: u64,
 }
 
 const SHORT: Size = Size {
@@ -27,7 +28,7 @@ const SHORT: Size = Size {
     logs: 100_000,
     cut_logs: 20,
     full_logs: 4,
-    crop_edges: 1,
+    edges: 1,
 };
 
 const LONG: Size = Size {
@@ -36,7 +37,7 @@ const LONG: Size = Size {
     logs: 1_500_000,
     cut_logs: 200,
     full_logs: 40,
-    crop_edges: 20,
+    edges: 20,
 };
 
 /// How far a figure is proved to lie from the equation at most, in 0.0001 inch.
@@ -154,15 +155,41 @@ impl Opinions {
     }
 }
 
+/// A day with a figure that its station's own limit enters.
+const CUT: &str = "answered with a wind run cut by a limit below the routine's";
+
+/// How often a refusal was given for one of its reasons alone, by the reason.
+#[derive(Default)]
+struct Alone(BTreeMap<&'static str, u64>);
+
+impl Alone {
+    fn count<Of>(&mut self, reasons: &[Reason<Of>], of: &Of) {
+        let holding: Vec<_> = reasons.iter().filter(|(_, holds)| holds(of)).collect();
+        if let [(reason, _)] = holding[..] {
+            *self.0.entry(reason).or_default() += 1;
+        }
+    }
+
+    /// Each of the reasons, those that were not met too.
+    fn met<Of>(&self, reasons: &[Reason<Of>]) -> Vec<(&'static str, u64)> {
+        let met = |reason| self.0.get(reason).copied().unwrap_or_default();
+        let names = reasons.iter().map(|(reason, _)| *reason);
+        names.map(|reason| (reason, met(reason))).collect()
+    }
+}
+
 #[derive(Default)]
 struct DayTally {
     days: u64,
     answered: u64,
     above_zero: u64,
+    /// Those that are `CUT`.
+    limited: u64,
     refused: [u64; 13],
+    refused_for_station: Alone,
     refused_for_earlier: u64,
     largest: Largest<Case>,
-    opinions: [Opinions; 5],
+    opinions: [Opinions; Known::ALL.len()],
 }
 
 impl DayTally {
@@ -184,6 +211,9 @@ impl DayTally {
             Verdict::Figure(figure) => self.check_figure(figure, case),
             Verdict::Refused(number) => {
                 self.refused[number as usize] += 1;
+                if number == 3 {
+                    self.refused_for_station.count(&station::REASONS, station);
+                }
                 let alone = second::judge(station, day, &[None; 3]);
                 self.refused_for_earlier += u64::from(alone != given);
                 Ok(())
@@ -199,6 +229,7 @@ impl DayTally {
             day,
             earlier,
         } = case;
+        self.limited += u64::from(station.limits(day));
         let away = |inches: f64| (f64::from(figure) - 10_000.0 * inches).abs();
         let beyond = |from: &str, by: f64| {
             format!("figure {figure} is {by} from {from}, more than {ALLOWED}\n{case:?}")
@@ -224,8 +255,12 @@ impl DayTally {
             "days handed in alone: {}, answered {}, with a figure above zero {}",
             self.days, self.answered, self.above_zero
         );
+        println!("  {CUT}: {}", self.limited);
         for number in [3, 6, 7, 8, 9, 10, 11] {
             println!("  refusal {number}: {}", self.refused[number]);
+        }
+        for (reason, met) in self.refused_for_station.met(&station::REASONS) {
+            println!("  refusal 3 for {reason} alone: {met}");
         }
         println!(
             "  refusal 8 for an earlier mean: {}",
@@ -265,6 +300,7 @@ struct LogTally {
     refused: [u64; 14],
     days: u64,
     days_refused: [u64; 13],
+    stations: StationTally,
     crops: CropTally,
     reports: ReportTally,
 }
@@ -323,12 +359,15 @@ impl LogTally {
         let needed = match &answers {
             Ok(answers) => {
                 self.accepted += 1;
+                self.stations.count(log);
                 answers.len()
             }
             Err((number, offset)) => {
                 self.refused[*number as usize] += 1;
-                if *number == 13 {
-                    self.crops.count_refused(&log[*offset..]);
+                match *number {
+                    3 => self.stations.count_refused(&log[*offset..]),
+                    13 => self.crops.count_refused(&log[*offset..]),
+                    _ => {}
                 }
                 0
             }
@@ -355,6 +394,7 @@ impl LogTally {
             if let Verdict::Refused(number) = judged.verdict {
                 self.days_refused[number as usize] += 1;
             }
+            self.stations.count_day(judged);
             self.crops.check(judged)?;
         }
         Ok(())
@@ -395,8 +435,52 @@ impl LogTally {
         for number in [6, 7, 8, 9, 10, 11] {
             println!("  refusal {number}: {} days", self.days_refused[number]);
         }
+        self.stations.print();
         self.crops.print();
         self.reports.print();
+    }
+}
+
+/// The kinds of station records.
+const STATION_KINDS: [u8; 2] = [1, 8];
+
+#[derive(Default)]
+struct StationTally {
+    /// The stations of accepted logs, by their kinds.
+    kinds: [u64; STATION_KINDS.len()],
+    /// The logs that were refused with 3.
+    refused: Alone,
+    /// The days that are `CUT`.
+    limited: u64,
+}
+
+impl StationTally {
+    fn count(&mut self, log: &[u8]) {
+        for kind in second::log::station_kinds(log).iter().flatten() {
+            for (met, of) in self.kinds.iter_mut().zip(STATION_KINDS) {
+                *met += u64::from(*kind == of);
+            }
+        }
+    }
+
+    fn count_refused(&mut self, record: &[u8]) {
+        let station = second::log::station(record[0], &record[1..]);
+        self.refused.count(&station::REASONS, &station);
+    }
+
+    fn count_day(&mut self, judged: &Judged) {
+        let answered = matches!(judged.verdict, Verdict::Figure(_));
+        self.limited += u64::from(answered && judged.station.limits(&judged.day));
+    }
+
+    fn print(&self) {
+        for (kind, met) in STATION_KINDS.iter().zip(self.kinds) {
+            println!("  stations of kind {kind} in accepted logs: {met}");
+        }
+        for (reason, met) in self.refused.met(&station::REASONS) {
+            println!("  refusal 3 for {reason} alone: {met} logs");
+        }
+        println!("  {CUT}: {} days", self.limited);
     }
 }
 
@@ -413,8 +497,8 @@ const STANDINGS: [&str; 7] = [
 
 #[derive(Default)]
 struct CropTally {
-    /// The logs that were refused with 13 for one reason alone, by the reason.
-    refused: [u64; REASONS.len()],
+    /// The logs that were refused with 13.
+    refused: Alone,
     standings: [u64; STANDINGS.len()],
     figures: u64,
     /// Those that were a whole number and a half before they were rounded.
@@ -425,11 +509,7 @@ struct CropTally {
 impl CropTally {
     fn count_refused(&mut self, record: &[u8]) {
         let crop = second::log::crop(&record[1..]);
-        let holding = REASONS.map(|(_, holds)| holds(&crop));
-        let alone = holding.iter().filter(|&&holds| holds).count() == 1;
-        for (met, holds) in self.refused.iter_mut().zip(holding) {
-            *met += u64::from(alone && holds);
-        }
+        self.refused.count(&crop::REASONS, &crop);
     }
 
     /// A day's crop figure against what is promised of it.
@@ -482,7 +562,7 @@ impl CropTally {
     }
 
     fn print(&self) {
-        for ((reason, _), met) in REASONS.iter().zip(self.refused) {
+        for (reason, met) in self.refused.met(&crop::REASONS) {
             println!("  refusal 13 for {reason} alone: {met} logs");
         }
         for (standing, met) in STANDINGS.iter().zip(self.standings) {
@@ -597,7 +677,7 @@ fn full_logs(random: &mut Random) -> Vec<Vec<u8>> {
         vec![0; LONGEST_LOG + 1],
         vec![1; 140_000],
     ];
-    for after in [0, 1, 2, 6, 255] {
+    for after in [0, 1, 2, 6, 8, 255] {
         logs.push([&full[..], &[after]].concat());
         logs.push([&full[..LONGEST_LOG - 17], &[after]].concat());
     }
@@ -622,8 +702,11 @@ fn compare_logs(size: &Size) -> Result<LogTally, String> {
             tally.check(&log)?;
         }
     }
-    for _ in 0..size.crop_edges {
+    for _ in 0..size.edges {
         for log in days::crop_edges(&mut random) {
+            tally.check(&log)?;
+        }
+        for log in days::station_edges(&mut random) {
             tally.check(&log)?;
         }
     }
@@ -692,7 +775,7 @@ fn sample_logs() -> Result<Vec<Vec<u8>>, String> {
 type IsOfKind = fn(&[u8], &str) -> bool;
 
 /// The kinds of logs that the report program must have been run on.
-const LOG_KINDS: [(&str, IsOfKind); 12] = [
+const LOG_KINDS: [(&str, IsOfKind); 13] = [
     ("refusal 1", |_, report| report.starts_with("REFUSED 1 ")),
     ("refusal 2", |_, report| report.starts_with("REFUSED 2 ")),
     ("refusal 3", |_, report| report.starts_with("REFUSED 3 ")),
@@ -705,6 +788,9 @@ const LOG_KINDS: [(&str, IsOfKind); 12] = [
     }),
     ("of 65537 bytes", |log, _| log.len() == LONGEST_LOG + 1),
     ("longer", |log, _| log.len() > LONGEST_LOG + 1),
+    ("with a station of kind 8, accepted", |log, _| {
+        second::log::station_kinds(log).is_ok_and(|kinds| kinds.contains(&8))
+    }),
     ("with a crop figure", |_, report| {
         report.lines().any(|line| line.split(' ').count() == 2)
     }),
@@ -764,8 +850,9 @@ fn compare_program() -> Result<ProgramTally, String> {
     Ok(tally)
 }
 
-/// Fails if a refusal that can be given was never met, a day never stood in some way to a crop, a kind of report was never
-/// written to a kind of text buffer, or the report program never run on a kind of log.
+/// Fails if a refusal that can be given was never met, a kind of station never accepted, a wind run never cut by a limit
+/// below the routine's, a day never stood in some way to a crop, a kind of report was never written to a kind of text
+/// buffer, or the report program never run on a kind of log.
 fn all_reached(days: &DayTally, logs: &LogTally, program: &ProgramTally) -> Result<(), String> {
     let of_days = [3, 6, 7, 8, 9, 10].map(|number| (number, "days alone", days.refused[number]));
     let of_logs = [1, 2, 3, 4, 5, 12, 13].map(|number| (number, "logs", logs.refused[number]));
@@ -782,10 +869,30 @@ fn all_reached(days: &DayTally, logs: &LogTally, program: &ProgramTally) -> Resu
             return Err(format!("refusal {number} of {of} was never reached"));
         }
     }
-    let crops = &logs.crops;
-    for ((reason, _), met) in REASONS.iter().zip(crops.refused) {
+    let (stations, crops) = (&logs.stations, &logs.crops);
+    let by_reason = [
+        (
+            "3 of days alone",
+            days.refused_for_station.met(&station::REASONS),
+        ),
+        ("3 of logs", stations.refused.met(&station::REASONS)),
+        ("13 of logs", crops.refused.met(&crop::REASONS)),
+    ];
+    for (refusal, reasons) in by_reason {
+        if let Some((reason, _)) = reasons.iter().find(|(_, met)| *met == 0) {
+            return Err(format!(
+                "refusal {refusal} for {reason} alone was never reached"
+            ));
+        }
+    }
+    for (kind, met) in STATION_KINDS.iter().zip(stations.kinds) {
         if met == 0 {
-            return Err(format!("refusal 13 for {reason} alone was never reached"));
+            return Err(format!("no accepted log had a station of kind {kind}"));
+        }
+    }
+    for (of, met) in [("alone", days.limited), ("in a log", stations.limited)] {
+        if met == 0 {
+            return Err(format!("no day {of} was {CUT}"));
         }
     }
     for (standing, met) in STANDINGS.iter().zip(crops.standings) {

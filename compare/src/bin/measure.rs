@@ -4,7 +4,7 @@
 use compare::days::{self, Case, Random};
 use compare::office::{self, Handed};
 use compare::second::{self, calendar, log, sheet};
-use compare::{plain, Crop, Day, Earlier, Outcome, Station, Verdict};
+use compare::{plain, Crop, Day, Earlier, Outcome, Station, Verdict, ROUTINE_LIMIT};
 use std::fmt;
 use std::hint::black_box;
 use std::process::ExitCode;
@@ -218,7 +218,7 @@ impl Readings<f32> {
 
 // ---------------------------------------------------------------- what is timed
 
-/// A station whose clear-day curve lies near the published one of LIDW, at any elevation.
+/// A station whose clear-day curve lies near the published one of LIDW, at any elevation, with the routine's wind limit.
 fn station(random: &mut Random) -> Station {
     Station {
         code: [0; 4].map(|_| random.between(b'A'.into(), b'Z'.into()) as u8),
@@ -231,6 +231,7 @@ fn station(random: &mut Random) -> Station {
         ],
         minimum: random.between(50, 200) as u16,
         elevation: random.between(0, 3_000) as u16,
+        wind_limit: ROUTINE_LIMIT,
     }
 }
 
@@ -313,7 +314,7 @@ struct Log {
 impl Log {
     /// As many whole records as fit.
     fn of_size(size: usize, station: Station, random: &mut Random) -> Self {
-        let mut bytes = days::station_record(&station).to_vec();
+        let mut bytes = days::station_record(&station);
         let mut cases = Vec::new();
         let mut earlier: Earlier = [None; 3];
         for (year, d) in (1_950..=2_099).flat_map(|year| (1..=366).map(move |d| (year, d))) {
@@ -377,7 +378,7 @@ fn check_report(bytes: &[u8]) -> Result<(), String> {
 
 /// A full log of days in a year that the calendar lacks: each is read fast, and has a line all the same.
 fn bad_dates(station: &Station, random: &mut Random) -> Vec<u8> {
-    let mut bytes = days::station_record(station).to_vec();
+    let mut bytes = days::station_record(station);
     let record = days::day_record(&weather(random, station, 1_949, 1));
     while bytes.len() + record.len() <= LOG_SIZES[LOG_SIZES.len() - 1] {
         bytes.extend(record);
@@ -394,7 +395,7 @@ struct CropLogs {
 
 impl CropLogs {
     fn new(station: &Station, random: &mut Random) -> Self {
-        let with = days::station_record(station).to_vec();
+        let with = days::station_record(station);
         let mut logs = CropLogs {
             without: with.clone(),
             with,

@@ -1,11 +1,9 @@
 //! The crops of change request W1: which ones a log may have, and a crop's part of a day's figure.
+use super::Reason;
 use crate::Crop;
 
-/// Whether a reason holds of a crop.
-type Holds = fn(&Crop) -> bool;
-
 /// The reasons for refusal 13.
-pub const REASONS: [(&str, Holds); 6] = [
+pub const REASONS: [Reason<Crop>; 6] = [
     ("a letter", |crop| {
         !crop.code.iter().all(u8::is_ascii_uppercase)
     }),

@@ -6,6 +6,7 @@ pub mod calendar;
 pub mod crop;
 pub mod log;
 pub mod sheet;
+pub mod station;
 pub mod tables;
 pub mod text;
 
@@ -20,16 +21,12 @@ const TEMPERATURE: RangeInclusive<i16> = -94..=1_291;
 const RADIATION: RangeInclusive<i16> = 0..=12_000;
 const WIND: RangeInclusive<i16> = 0..=9_999;
 
-/// Refusal 3 is for a station that this does not hold of.
-pub fn station_in_range(station: &Station) -> bool {
-    station.code.iter().all(u8::is_ascii_uppercase)
-        && (50..=200).contains(&station.minimum)
-        && station.elevation <= 3_000
-}
+/// A reason to refuse a record, in words, and whether it holds of one.
+pub type Reason<Of> = (&'static str, fn(&Of) -> bool);
 
 /// A day handed in alone.
 pub fn judge(station: &Station, day: &Day, earlier: &Earlier) -> Verdict {
-    if !station_in_range(station) {
+    if !station::in_range(station) {
         Verdict::Refused(3)
     } else if calendar::number(day.year, day.d).is_none() {
         Verdict::Refused(6)
@@ -68,12 +65,14 @@ fn judge_dated(station: &Station, day: &Day, earlier: &Earlier) -> Verdict {
 #[cfg(test)]
 mod tests {
     use super::*;
+    use crate::ROUTINE_LIMIT;
 
     const LEVEL: Station = Station {
         code: *b"LEVL",
         c: [500, 0, 0, 0, 0],
         minimum: 50,
         elevation: 0,
+        wind_limit: ROUTINE_LIMIT,
     };
     const WARM: Day = Day {
         year: 2007,
@@ -86,6 +85,13 @@ mod tests {
         wind: 800,
     };
     const ALONE: Earlier = [None; 3];
+
+    fn limited(wind_limit: u16) -> Station {
+        Station {
+            wind_limit,
+            ..LEVEL
+        }
+    }
 
     fn refusal(station: Station, day: Day, earlier: Earlier) -> u32 {
         match judge(&station, &day, &earlier) {
@@ -132,10 +138,22 @@ mod tests {
     }
 
     #[test]
+    fn a_wind_run_above_the_limit_counts_as_the_limit() {
+        let judged = |limit, wind| judge(&limited(limit), &Day { wind, ..WARM }, &ALONE);
+        assert_eq!(judged(1_000, 1_300), judged(1_500, 1_000));
+        assert_eq!(judged(1_000, 1_000), judged(1_500, 1_000));
+        assert_ne!(judged(1_000, 1_300), judged(1_500, 1_300));
+        assert_eq!(judged(1_500, 9_999), judged(1_500, 1_500));
+    }
+
+    #[test]
     fn a_station_field_at_its_ends() {
         let minimum = |minimum| refusal(Station { minimum, ..LEVEL }, WARM, ALONE);
         assert_eq!([49, 50, 200, 201].map(minimum), [3, 0, 0, 3]);
         let elevation = |elevation| refusal(Station { elevation, ..LEVEL }, WARM, ALONE);
         assert_eq!([0, 3_000, 3_001].map(elevation), [0, 0, 3]);
+        let limit = |wind_limit| refusal(limited(wind_limit), WARM, ALONE);
+        let limits = [0, 999, 1_000, 1_500, 1_501, 65_535];
+        assert_eq!(limits.map(limit), [3, 3, 0, 0, 3, 3]);
     }
 }

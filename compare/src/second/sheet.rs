@@ -1,4 +1,4 @@
-//! The step sheet of scope document 01, line by line, in its order and letters.
+//! The step sheet of scope document 01, line by line, in its order and letters, with the wind limit of W2.
 use super::tables::TABLES;
 use crate::{Day, Earlier, Station};
 
@@ -121,7 +121,7 @@ fn evaporation(station: &Station, day: &Day, earlier: &Earlier) -> i128 {
     let rn = down((BILLION - of_day(&TABLES.albedo)) * 41_868 * s, BILLION) - rb;
     let h = rn - soil_heat(m, earlier);
 
-    let w = w.min(1_500);
+    let w = w.min(station.wind_limit.into());
     let wf = of_day(&TABLES.aw) + down(of_day(&TABLES.bw) * 16_093 * w, 100_000);
     let v = down(vapour_pressure(maximum) + vapour_pressure(minimum), 2) - ea;
     let t = v / 100 * wf / BILLION * 643 / 100;
@@ -144,12 +144,14 @@ pub fn figure(station: &Station, day: &Day, earlier: &Earlier) -> u32 {
 #[cfg(test)]
 mod tests {
     use super::*;
+    use crate::ROUTINE_LIMIT;
 
     const LIDW: Station = Station {
         code: *b"LIDW",
         c: [154, 1_760, 614, -396, 590],
         minimum: 100,
         elevation: 497,
+        wind_limit: ROUTINE_LIMIT,
     };
 
     #[test]
