@@ -13,6 +13,10 @@ def station(code, constants, minimum, elevation):
     return bytes([1]) + code + struct.pack(">5hHH", *constants, minimum, elevation)
 
 
+def limited_station(code, constants, minimum, elevation, limit):
+    return bytes([8]) + station(code, constants, minimum, elevation)[1:] + struct.pack(">H", limit)
+
+
 def day(year, d, maximum, minimum, mean, dewpoint, radiation, wind):
     return bytes([2]) + struct.pack(">HH6h", year, d, maximum, minimum, mean, dewpoint, radiation, wind)
 
@@ -21,7 +25,7 @@ def crop(code, year, start, full, percentages):
     return bytes([6]) + code + struct.pack(">HHH11B", year, start, full, *percentages)
 
 
-def season(year, first, last, warmth):
+def season(year, first, last, warmth, calmest=600):
     """Plain weather: warmest and brightest at day 200, a little different from day to day."""
     for d in range(first, last + 1):
         off = abs(d - 200)
@@ -31,7 +35,7 @@ def season(year, first, last, warmth):
         mean = (maximum + minimum) // 2
         dewpoint = minimum - 40
         radiation = 7000 - 25 * off - 20 * turn
-        wind = 600 + 12 * turn
+        wind = calmest + 12 * turn
         yield day(year, d, maximum, minimum, mean, dewpoint, radiation, wind)
 
 
@@ -48,3 +52,8 @@ write("season.log", station(*LIDW), *season(2008, 105, 288, 0))
 write("crop_season.log", station(*LIDW), crop(*BEAN), *season(2008, 130, 270, 0))
 write("two_stations.log", station(*LIDW), *season(2008, 180, 186, 0), station(*HIGH), *season(2008, 180, 186, -120))
 write("cut_off.log", b"".join(worked)[:-3])
+
+# The same windy days twice: with a limit of 100 miles, which most of them are above, and with the 150 miles of kind 1.
+windy = list(season(2008, 180, 189, 0, calmest=900))
+fields = LIDW[1:]
+write("wind_limit.log", limited_station(b"UTAH", *fields, 1000), *windy, station(b"FREE", *fields), *windy)
