@@ -5,9 +5,9 @@
  * Each function returns two numbers of 32 bits in one of 64: fuortwem_number takes out the high half, fuortwem_value the low one.
  * The high half is the number of the refusal, or 0 if there is none. The numbers:
  *
- *    1   log: a record's kind is none of 1, 2 and 6
+ *    1   log: a record's kind is none of 1, 2, 6 and 8
  *    2   log: it ends inside a record
- *    3   log or day alone: a field of the station is out of range: a letter of the code, the clear-day minimum or the elevation
+ *    3   log or day alone: a field of the station is out of range: a letter of the code, the clear-day minimum, the elevation or the wind limit
  *    4   log: a day or a crop before any station
  *    5   log: it is over 65,536 bytes
  *    6   day: no date of the years 1950 to 2099 or, in a log, not after the block's last good date
@@ -51,7 +51,8 @@ extern "C" {
  *   number 3, 6, 7, 8, 9, 10, 11   the first of these, in this order, that holds of the day; the value is 0
  *
  * Station: its code's four letters, A to Z, as ASCII; c1 to c5 of its clear-day radiation, in units of 1, 0.001, 0.0001, 0.000001 and
- * 0.000000001 cal/cm2/d, any value; the clear-day minimum in cal/cm2/d, 50 to 200; the elevation in metres, 0 to 3,000.
+ * 0.000000001 cal/cm2/d, any value; the clear-day minimum in cal/cm2/d, 50 to 200; the elevation in metres, 0 to 3,000; the wind limit in
+ * tenths of a mile a day, 1,000 to 1,500: a wind run above it counts as the limit. 1,500 is the limit of a station whose record is of kind 1.
  * Day: the year, 1950 to 2099; d, the day of the year, 1 to 365, or 366 in a leap year; maximum, minimum, mean and dew point in tenths of
  * a degree Fahrenheit, -94 to 1,291; solar radiation in tenths of a cal/cm2/d, 0 to 12,000; wind run in tenths of a mile a day, 0 to 9,999.
  * A reading that is missing is -32,768 (FUORTWEM_MISSING).
@@ -62,7 +63,7 @@ extern "C" {
 uint64_t fuortwem_judge(
     uint8_t first, uint8_t second, uint8_t third, uint8_t fourth,
     int16_t c1, int16_t c2, int16_t c3, int16_t c4, int16_t c5,
-    uint16_t clear_minimum, uint16_t elevation,
+    uint16_t clear_minimum, uint16_t elevation, uint16_t wind_limit,
     uint16_t year, uint16_t d,
     int16_t maximum, int16_t minimum, int16_t mean, int16_t dewpoint, int16_t radiation, int16_t wind,
     uint8_t has_one, int16_t one, uint8_t has_two, int16_t two, uint8_t has_three, int16_t three);
@@ -84,13 +85,17 @@ uint64_t fuortwem_judge(
  *   kind 1, station, 19 bytes with the kind: code (4 bytes), c1 to c5 (2 each, signed), clear-day minimum (2), elevation (2)
  *   kind 2, day, 17 bytes: year (2), d (2), maximum, minimum, mean, dew point, radiation, wind (2 each, signed)
  *   kind 6, crop, 22 bytes: letters (4), year (2), start day S (2), full day F (2), percentages of stages 0 to 10 (1 each)
+ *   kind 8, station with a wind limit, 21 bytes: the fields of kind 1, wind limit (2)
+ *
+ * The wind limit is in tenths of a mile a day, 1,000 to 1,500; that of a station of kind 1 is 1,500. A wind run above the limit of its
+ * station counts as the limit.
  *
  * A crop's letters are A to Z; its year is 1950 to 2099; S is at least 1, F above S and at most 365; a percentage is at most 200. It holds
  * for the days after it up to the next crop or the next station.
  *
  * An answer, all numbers unsigned:
  *
- *   kind 5, station, 5 bytes: code (4)
+ *   kind 5, station of either kind, 5 bytes: code (4)
  *   kind 3, day with a figure, 9 bytes: year (2), d (2), figure in 0.0001 inch (4)
  *   kind 4, day refused, 9 bytes: year (2), d (2), the refusal's number, 6 to 11 (4)
  *   kind 7, crop figure, 9 bytes: the crop's letters (4), figure in 0.0001 inch (4)
