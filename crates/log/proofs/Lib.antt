@@ -22,3 +22,4 @@ pub mod Counted
 pub mod Longest
 pub mod WithoutKind
 pub mod WithoutCrops
+pub mod LimitedStations

@@ -85,7 +85,7 @@ module _ {s : List ℕ} {n : ℕ} {t : List ℕ} (part : Part s n t) where
   prepend-moved e (refused k at) = refl
   prepend-moved e (accepted es) = refl
 
-  read-last : length s ≡ n + length t → (m at : ℕ) (p : Past) → readFrom m s (n + at) p ≡ moved n (readFrom m t at p)
+  pub read-last : length s ≡ n + length t → (m at : ℕ) (p : Past) → readFrom m s (n + at) p ≡ moved n (readFrom m t at p)
   unfolding readFrom
   read-last last zero at p = refl
   read-last last (suc m) at p =

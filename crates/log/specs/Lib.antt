@@ -6,5 +6,6 @@ pub mod Demand
 pub mod CropFigures
 pub mod WithoutKind
 pub mod WithoutCrops
+pub mod LimitedStations
 pub mod Carried
 pub mod Passes

@@ -1,0 +1,205 @@
+-- A station's record of kind 1 and the same as one of kind 8 with the limit 1,500 give the same answers. The theorem is `same-answers`. Assumes nothing.
+use mathlib.Core.Path.{_≡_, refl, sym, ap, _∙_, subst}
+use mathlib.Core.Bool.{Bool, true, false, cond}
+use mathlib.Core.List.{List, [], _∷_, _++_, append-assoc}
+use Prim.Native.Nat.{ℕ, zero, suc, _+_, _<_, _≤_}
+use native.Mathlib.Omega.{arith}
+use borrow.Author.Tests.{le-leb, lt-leb, le-ltb}
+use lib.Dec.{ltb, leb}
+use lib.ListN.{length, getD, length-append, List·getD-append}
+use lib.Seq.{getD-append-add}
+use Rattle.answers.specs.Answers.{bytesOf}
+use Rattle.day.specs.Rules.{routineLimit, badStation}
+use Rattle.day.specs.declared.Station.{Station}
+use Rattle.records.specs.Bytes.{wordAt}
+use Rattle.records.specs.Record.{stationWith, stationAt, limitedStationAt, recordAt}
+use Rattle.records.specs.declared.Record.{Record}
+use Rattle.records.specs.declared.Record.the-variants as Record
+use Rattle.records.proofs.Alike.{Alike, station-alike}
+use Rattle.records.proofs.Part.{Part, rest-part}
+use Rattle.log.specs.LimitedStations.{withKindOne, withKindEight, StationThere, twoFurther, SameAnswers}
+use Rattle.log.specs.Log.{Past, unopened, block, opened, Entry, station, past, answersOf, Step, faulty, holds, stepOf, stepAt}
+use Rattle.log.specs.Log.{Reading, refused, accepted, prepend, onward, readFrom, readingOf, entriesOf, settled, longest, outcomeOf, leaves, bufferAfter}
+use Rattle.log.specs.declared.Outcome.the-variants.{Refused}
+use Rattle.log.proofs.Steps.{steps-enough}
+use Rattle.log.proofs.TwoParts.{pastAll, moved, read-last, two-parts}
+use Rattle.log.proofs.Walked.{behind, behind-refused, behind-accepted}
+
+-- ---- a station's record, of either kind
+
+-- the reading of a log that begins with a station's record of n bytes
+stationFirst : ℕ → Station → List ℕ → Reading
+stationFirst n x rest = cond (badStation x) (refused 3 0) (prepend (station x) (moved n (readFrom (length rest + 1) rest 0 (block (opened x)))))
+
+-- a kind byte, the fields, and what else the record has
+module _ (kind : ℕ) (fields more rest : List ℕ) where
+  abbrev log : List ℕ
+  log = kind ∷ (fields ++ (more ++ rest))
+
+  abbrev size : ℕ
+  size = length (kind ∷ (fields ++ more))
+
+  parts : (kind ∷ (fields ++ more)) ++ rest ≡ log
+  parts = ap (λ (l : List ℕ). kind ∷ l) (append-assoc fields more rest)
+
+  rest-there : Part log size rest
+  rest-there = subst (λ (l : List ℕ). Part l size rest) parts (rest-part (kind ∷ (fields ++ more)) rest)
+
+  whole-length : length log ≡ size + length rest
+  whole-length = sym (ap length parts) ∙ length-append (kind ∷ (fields ++ more)) rest
+
+  fields-there : Alike log 1 fields 0 (length fields)
+  fields-there =
+      record {
+        bytes = λ i below.
+            let on : 1 + i ≡ suc i = omega arith in
+            let same : 0 + i ≡ i = omega arith in
+            rw (on, same) (List·getD-append fields (more ++ rest) 0 i below);
+      }
+
+  module _ (n : ℕ) (sized : size ≡ n) where
+    rest-read : (p : Past) → readFrom (length log) log n p ≡ moved n (readFrom (length rest + 1) rest 0 p)
+    rest-read p =
+        ap (λ (at : ℕ). readFrom (length log) log at p) (omega arith)
+        ∙ read-last rest-there whole-length (length log) 0 p
+        ∙ (λ i. moved (sized i) (steps-enough rest (length log) (length rest + 1) 0 p (omega arith) (omega (arith, whole-length)) (omega arith) i))
+
+    first-read : {x : Station} → recordAt log 0 ≡ Record.Station n x → (q : Past) → readFrom (length log + 1) log 0 q ≡ stationFirst n x rest
+    unfolding readFrom stationFirst
+    first-read {x} is q =
+        let steps : length log + 1 ≡ suc (length log) = omega arith in
+        ap (λ (m : ℕ). readFrom m log 0 q) steps
+        ∙ ap (λ (r : Record). onward (stepOf log r q) 0 (readFrom (length log) log)) is
+        ∙ by (badStation x)
+      where
+        by : (b : Bool) → onward (cond b (faulty 3) (holds n (station x))) 0 (readFrom (length log) log)
+            ≡ cond b (refused 3 0) (prepend (station x) (moved n (readFrom (length rest + 1) rest 0 (block (opened x)))))
+        by true = refl
+        by false = ap (prepend (station x)) (rest-read (block (opened x)))
+
+-- ---- the two records
+
+module _ (front fields rest : List ℕ) (there : StationThere front fields) where
+  abbrev place : ℕ
+  place = length front
+
+  abbrev s : List ℕ
+  s = withKindOne front fields rest
+
+  abbrev t : List ℕ
+  t = withKindEight front fields rest
+
+  -- what both say
+  abbrev x : Station
+  x = stationWith routineLimit fields 0
+
+  abbrev more : List ℕ
+  more = 5 ∷ 220 ∷ []
+
+  abbrev logOne : List ℕ
+  logOne = log 1 fields [] rest
+
+  abbrev logEight : List ℕ
+  logEight = log 8 fields more rest
+
+  one-says : stationAt logOne 1 ≡ x
+  unfolding stationAt
+  one-says = station-alike (fields-there 1 fields [] rest) {l = routineLimit} refl (omega (arith, there .eighteen))
+
+  one : recordAt logOne 0 ≡ Record.Station 19 x
+  unfolding recordAt
+  one =
+      simp (
+        lt-leb (length logOne) 0 (omega arith),
+        le-ltb (length logOne) 19 (omega (arith, there .eighteen, length-append fields rest)),
+        one-says,
+      )
+
+  limit-is : wordAt logEight 19 ≡ routineLimit
+  unfolding wordAt
+  limit-is = omega (arith, byte 0 18 (omega (arith, there .eighteen)), byte 1 19 (omega (arith, there .eighteen)))
+    where
+      byte : (i at : ℕ) → length fields + i ≡ at → getD (fields ++ (more ++ rest)) at 0 ≡ getD (more ++ rest) i 0
+      byte i at e = subst (λ (k : ℕ). getD (fields ++ (more ++ rest)) k 0 ≡ getD (more ++ rest) i 0) e (getD-append-add fields (more ++ rest) i 0)
+
+  eight-says : limitedStationAt logEight 1 ≡ x
+  unfolding limitedStationAt
+  eight-says = station-alike (fields-there 8 fields more rest) limit-is (omega (arith, there .eighteen))
+
+  eight : recordAt logEight 0 ≡ Record.Station 21 x
+  unfolding recordAt
+  eight =
+      simp (
+        lt-leb (length logEight) 0 (omega arith),
+        le-ltb (length logEight) 21 (omega (arith, there .eighteen, length-append fields (more ++ rest))),
+        eight-says,
+      )
+
+  -- ---- the two logs
+
+  abbrev start : Past
+  start = pastAll unopened (there .before)
+
+  read-one : readingOf s ≡ behind (there .before) (moved place (stationFirst 19 x rest))
+  read-one =
+      two-parts front logOne (there .before) (there .whole)
+      ∙ ap (λ (r : Reading). behind (there .before) (moved place r))
+      (first-read 1 fields [] rest 19 (omega (arith, there .eighteen, length-append fields [])) one start)
+
+  read-eight : readingOf t ≡ behind (there .before) (moved place (stationFirst 21 x rest))
+  read-eight =
+      two-parts front logEight (there .before) (there .whole)
+      ∙ ap (λ (r : Reading). behind (there .before) (moved place r))
+      (first-read 8 fields more rest 21 (omega (arith, there .eighteen, length-append fields more)) eight start)
+
+  refused-further : (k at further : ℕ) → cond (leb at place) at (at + 2) ≡ further
+      → behind (there .before) (refused k further) ≡ twoFurther place (behind (there .before) (refused k at))
+  refused-further k at further e =
+      behind-refused (there .before) k further ∙ ap (refused k) (sym e) ∙ ap (twoFurther place) (sym (behind-refused (there .before) k at))
+
+  same-reading : readingOf t ≡ twoFurther place (readingOf s)
+  unfolding stationFirst
+  same-reading = read-eight ∙ by (badStation x) (readFrom (length rest + 1) rest 0 (block (opened x))) ∙ ap (twoFurther place) (sym read-one)
+    where
+      by : (b : Bool) (r : Reading) → behind (there .before) (moved place (cond b (refused 3 0) (prepend (station x) (moved 21 r))))
+          ≡ twoFurther place (behind (there .before) (moved place (cond b (refused 3 0) (prepend (station x) (moved 19 r)))))
+      by true r = refused-further 3 (place + 0) (place + 0) (ap (λ (b : Bool). cond b (place + 0) (place + 0 + 2)) (le-leb (place + 0) place (omega arith)))
+      by false (refused k at) =
+          refused-further k (place + (19 + at)) (place + (21 + at))
+          (ap (λ (b : Bool). cond b (place + (19 + at)) (place + (19 + at) + 2)) (lt-leb (place + (19 + at)) place (omega arith)) ∙ omega arith)
+      by false (accepted es) =
+          behind-accepted (there .before) (station x ∷ es) ∙ ap (twoFurther place) (sym (behind-accepted (there .before) (station x ∷ es)))
+
+  -- ---- the outcome and the buffer
+
+  outcome-of : (l : List ℕ) → length l ≤ longest → (size : ℕ) → outcomeOf l size ≡ settled (readingOf l) size
+  unfolding outcomeOf
+  outcome-of l short size = ap (λ (b : Bool). cond b (Refused 5 0) (settled (readingOf l) size)) (le-ltb longest (length l) short)
+
+  same-outcome : length t ≤ longest → (size : ℕ) → outcomeOf t size ≡ settled (twoFurther place (readingOf s)) size
+  same-outcome short size = outcome-of t short size ∙ ap (λ (r : Reading). settled r size) same-reading
+
+  shorter : length t ≤ longest → length s ≤ longest
+  shorter short =
+      omega (
+        arith,
+        length-append front logOne,
+        length-append fields rest,
+        length-append front logEight,
+        length-append fields (more ++ rest),
+      )
+
+  same-buffer : length t ≤ longest → (lent : List ℕ) → bufferAfter t lent ≡ bufferAfter s lent
+  unfolding bufferAfter
+  same-buffer short lent =
+      (λ i. leaves (same-outcome short (length lent) i) (bytesOf (answersOf (entriesOf (same-reading i)))) lent)
+      ∙ by (readingOf s)
+      ∙ sym (λ i. leaves (outcome-of s (shorter short) (length lent) i) (bytesOf (answersOf (entriesOf (readingOf s)))) lent)
+    where
+      by : (r : Reading) → leaves (settled (twoFurther place r) (length lent)) (bytesOf (answersOf (entriesOf (twoFurther place r)))) lent
+          ≡ leaves (settled r (length lent)) (bytesOf (answersOf (entriesOf r))) lent
+      by (refused k at) = refl
+      by (accepted es) = refl
+
+  pub same-answers : SameAnswers place s t
+  same-answers = record { reading = same-reading; outcome = same-outcome; buffer = same-buffer }
