@@ -4,7 +4,7 @@ use mathlib.Core.Bool.{Bool, true, false, cond}
 use lib.Dec.{T}
 use lib.IntN.{ℤ, pos, _+ℤ_, _*ℤ_, *ℤ-comm}
 use lib.Signed.{_≤ℤ_}
-use Rattle.numbers.specs.Whole.{_÷↓_, _÷0_}
+use Rattle.numbers.specs.Whole.{_÷↓_, _÷0_, at-mostℤ}
 use Rattle.numbers.specs.Solver.{con, _:+_, _:-_, _:*_, _:=_}
 use Rattle.numbers.specs.IntegerSolver.{ringℤ}
 use Rattle.numbers.specs.Ratios.{_over_}
@@ -46,6 +46,11 @@ u-rounded {limit} is w lo hi =
   where
     in-tenths : {z : ℤ} → pos 0 ≤ℤ z → NonNeg (tenths z)
     in-tenths h = nonneg-mul (nonneg-of (fromℤ-mono h)) (nonneg-ratio (1 over 10) tt)
+
+-- at the routine's limit both lines are document 01's: 1,500 tenths, and 150 miles
+pub as-before : (w : ℤ) → (sheet.countedWind (pos routineLimit) w ≡ at-mostℤ (pos 1_500) w) × (equation.u (tenths (pos routineLimit)) (tenths w) ≡ at-mostℚ (150 /ℚ 1) (tenths w))
+unfolding sheet.countedWind equation.u
+as-before w = (refl, ap (λ (l : ℚ). at-mostℚ l (tenths w)) (ringℚ 0 (1500 # 1 :* 1 # 10 := 150 # 1) tt))
 
 pub Wf-rounded : {aw bw w : ℤ} {Aw Bw u : ℚ} → Rounded aw billionths Aw (1801 over 1000) (1 over 2000000000) → Rounded bw billionths Bw (111 over 10000) (1 over 2000000000) → Rounded w (1 over 10) u (150 over 1) (0 over 1) →
     Rounded (sheet.Wf aw bw w) billionths (Aw +ℚ 16093 /ℚ 10000 *ℚ Bw *ℚ u) (45 over 10) (123 over 1000000000)

@@ -15,6 +15,7 @@ pub mod CropFigures
 pub mod Sample
 pub mod WorkedLog
 pub mod WorkedCrop
+pub mod WorkedLimit
 pub mod Steps
 pub mod TwoParts
 pub mod OutcomeSize

@@ -2,7 +2,7 @@
 use mathlib.Core.Path.{_≡_, refl, sym, ap, _∙_, subst}
 use mathlib.Core.Bool.{Bool, true, false, cond}
 use mathlib.Core.List.{List, [], _∷_, _++_, append-assoc}
-use Prim.Native.Nat.{ℕ, zero, suc, _+_, _<_, _≤_}
+use Prim.Native.Nat.{ℕ, suc, _+_, _≤_}
 use native.Mathlib.Omega.{arith}
 use borrow.Author.Tests.{le-leb, lt-leb, le-ltb}
 use lib.Dec.{ltb, leb}
@@ -18,7 +18,7 @@ use Rattle.records.specs.declared.Record.the-variants as Record
 use Rattle.records.proofs.Alike.{Alike, station-alike}
 use Rattle.records.proofs.Part.{Part, rest-part}
 use Rattle.log.specs.LimitedStations.{withKindOne, withKindEight, StationThere, twoFurther, SameAnswers}
-use Rattle.log.specs.Log.{Past, unopened, block, opened, Entry, station, past, answersOf, Step, faulty, holds, stepOf, stepAt}
+use Rattle.log.specs.Log.{Past, unopened, block, opened, station, answersOf, faulty, holds, stepOf}
 use Rattle.log.specs.Log.{Reading, refused, accepted, prepend, onward, readFrom, readingOf, entriesOf, settled, longest, outcomeOf, leaves, bufferAfter}
 use Rattle.log.specs.declared.Outcome.the-variants.{Refused}
 use Rattle.log.proofs.Steps.{steps-enough}

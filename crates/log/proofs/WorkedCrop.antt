@@ -40,7 +40,7 @@ beans =
     ∷ 20 ∷ 22 ∷ 30 ∷ 45 ∷ 65 ∷ 90 ∷ 105 ∷ 107 ∷ 95 ∷ 60 ∷ 30 ∷ []
 
 -- day d of 2008, all temperatures of high and low byte, the wind missing
-abbrev windless : ℕ → ℕ → ℕ → List ℕ
+abbrev pub windless : ℕ → ℕ → ℕ → List ℕ
 windless d high low = 2 ∷ 7 ∷ 216 ∷ 0 ∷ d ∷ high ∷ low ∷ high ∷ low ∷ high ∷ low ∷ high ∷ low ∷ 0 ∷ 0 ∷ 128 ∷ 0 ∷ []
 
 -- day 180 of 2008: 90, 55, 72 and 50 °F, 700 cal/cm²/d, 100 miles
@@ -53,15 +53,15 @@ cropLog =
     station ++ beans ++ windless 178 2 188 ++ windless 179 2 198 ++ summer
     ++ station ++ windless 177 1 199 ++ windless 178 2 98 ++ windless 179 3 82 ++ summer
 
-abbrev means : Earlier
+abbrev pub means : Earlier
 means = record { one = Present (pos 710); two = Present (pos 700); three = Absent }
 
 -- ---- the days without wind are refused
 
-abbrev none : Earlier
+abbrev pub none : Earlier
 none = record { one = Absent; two = Absent; three = Absent }
 
-abbrev one : ℕ → Earlier
+abbrev pub one : ℕ → Earlier
 one f = record { one = Present (pos f); two = Absent; three = Absent }
 
 -- the verdict at the offset of a day
