@@ -17,7 +17,7 @@ use Rattle.records.specs.declared.Record.{Record}
 use Rattle.records.specs.declared.Record.the-variants as Record
 use Rattle.records.proofs.Alike.{Alike, station-alike}
 use Rattle.records.proofs.Part.{Part, rest-part}
-use Rattle.log.specs.LimitedStations.{withKindOne, withKindEight, StationThere, twoFurther, SameAnswers}
+use Rattle.log.specs.LimitedStations.{limitBytes, withKindOne, withKindEight, StationThere, twoFurther, SameAnswers}
 use Rattle.log.specs.Log.{Past, unopened, block, opened, station, answersOf, faulty, holds, stepOf}
 use Rattle.log.specs.Log.{Reading, refused, accepted, prepend, onward, readFrom, readingOf, entriesOf, settled, longest, outcomeOf, leaves, bufferAfter}
 use Rattle.log.specs.declared.Outcome.the-variants.{Refused}
@@ -93,14 +93,11 @@ module _ (front fields rest : List ℕ) (there : StationThere front fields) wher
   abbrev x : Station
   x = stationWith routineLimit fields 0
 
-  abbrev more : List ℕ
-  more = 5 ∷ 220 ∷ []
-
   abbrev logOne : List ℕ
   logOne = log 1 fields [] rest
 
   abbrev logEight : List ℕ
-  logEight = log 8 fields more rest
+  logEight = log 8 fields limitBytes rest
 
   one-says : stationAt logOne 1 ≡ x
   unfolding stationAt
@@ -119,19 +116,19 @@ module _ (front fields rest : List ℕ) (there : StationThere front fields) wher
   unfolding wordAt
   limit-is = omega (arith, byte 0 18 (omega (arith, there .eighteen)), byte 1 19 (omega (arith, there .eighteen)))
     where
-      byte : (i at : ℕ) → length fields + i ≡ at → getD (fields ++ (more ++ rest)) at 0 ≡ getD (more ++ rest) i 0
-      byte i at e = subst (λ (k : ℕ). getD (fields ++ (more ++ rest)) k 0 ≡ getD (more ++ rest) i 0) e (getD-append-add fields (more ++ rest) i 0)
+      byte : (i at : ℕ) → length fields + i ≡ at → getD (fields ++ (limitBytes ++ rest)) at 0 ≡ getD (limitBytes ++ rest) i 0
+      byte i at e = subst (λ (k : ℕ). getD (fields ++ (limitBytes ++ rest)) k 0 ≡ getD (limitBytes ++ rest) i 0) e (getD-append-add fields (limitBytes ++ rest) i 0)
 
   eight-says : limitedStationAt logEight 1 ≡ x
   unfolding limitedStationAt
-  eight-says = station-alike (fields-there 8 fields more rest) limit-is (omega (arith, there .eighteen))
+  eight-says = station-alike (fields-there 8 fields limitBytes rest) limit-is (omega (arith, there .eighteen))
 
   eight : recordAt logEight 0 ≡ Record.Station 21 x
   unfolding recordAt
   eight =
       simp (
         lt-leb (length logEight) 0 (omega arith),
-        le-ltb (length logEight) 21 (omega (arith, there .eighteen, length-append fields (more ++ rest))),
+        le-ltb (length logEight) 21 (omega (arith, there .eighteen, length-append fields (limitBytes ++ rest))),
         eight-says,
       )
 
@@ -150,7 +147,7 @@ module _ (front fields rest : List ℕ) (there : StationThere front fields) wher
   read-eight =
       two-parts front logEight (there .before) (there .whole)
       ∙ ap (λ (r : Reading). behind (there .before) (moved place r))
-      (first-read 8 fields more rest 21 (omega (arith, there .eighteen, length-append fields more)) eight start)
+      (first-read 8 fields limitBytes rest 21 (omega (arith, there .eighteen, length-append fields limitBytes)) eight start)
 
   refused-further : (k at further : ℕ) → cond (leb at place) at (at + 2) ≡ further
       → behind (there .before) (refused k further) ≡ twoFurther place (behind (there .before) (refused k at))
@@ -186,7 +183,7 @@ module _ (front fields rest : List ℕ) (there : StationThere front fields) wher
         length-append front logOne,
         length-append fields rest,
         length-append front logEight,
-        length-append fields (more ++ rest),
+        length-append fields (limitBytes ++ rest),
       )
 
   same-buffer : length t ≤ longest → (lent : List ℕ) → bufferAfter t lent ≡ bufferAfter s lent

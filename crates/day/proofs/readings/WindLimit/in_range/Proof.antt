@@ -4,10 +4,10 @@ use Rattle.day.proofs.readings.WindLimit.in_range.Statement.{statement}
 use Rattle.day.proofs.readings.WindLimit.in_range.Tie as tie
 
 returns : tie.Need-returns
-returns c = simp (le-leb _ _ (c .if1 .taken))
+returns c = simp (le-leb 1_000 (c .before .args .self .tenths) (c .if1 .taken))
 
 returns-2 : tie.Need-returns-2
-returns-2 c = simp (lt-leb _ _ (c .if1 .left))
+returns-2 c = simp (lt-leb 1_000 (c .before .args .self .tenths) (c .if1 .left))
 
 pub in-range-spec : {M : Type 1} → statement M
 in-range-spec = tie.close (tie.spec returns returns-2)
