@@ -1,6 +1,6 @@
 -- Values worked by hand. `marked` is one table of every value that document 01 marks to be proved. `days` are three days worked through: the one of
--- the document's log that gets a figure, and a summer day at the same station after two and after three earlier means. All are answered, so what
--- `judged-within-bound` asks can be met. Assumes nothing.
+-- the document's log that gets a figure, and a summer day at the same station after two and after three earlier means. `limits` are a windy day at
+-- three wind limits. All are answered, so what `judged-within-bound` asks can be met. Assumes nothing.
 use mathlib.Core.Path.{_≡_, refl, sym, _∙_, ap, ap₂, subst}
 use mathlib.Core.Bool.{Bool, false, cond}
 use mathlib.Core.List.{List, [], _∷_, map}
@@ -202,13 +202,13 @@ summerDay = record { year = 2008; d = 180; maximum = pos 900; minimum = pos 550;
 abbrev summerMeans : Earlier
 summerMeans = record { one = Present (pos 710); two = Present (pos 700); three = Absent }
 
--- the same with wind above every limit
-abbrev windyDay : Day
-windyDay = record { year = 2008; d = 180; maximum = pos 900; minimum = pos 550; mean = pos 720; dewpoint = pos 500; radiation = pos 7_000; wind = pos 2_000 }
-
 -- the same after three means that differ: without one of them, or with one in another's place, the figure is another
 abbrev threeMeans : Earlier
 threeMeans = record { one = Present (pos 850); two = Present (pos 610); three = Present (pos 455) }
+
+-- the summer day with 200 miles of wind, which is above every limit
+abbrev windyDay : Day
+windyDay = record { year = 2008; d = 180; maximum = pos 900; minimum = pos 550; mean = pos 720; dewpoint = pos 500; radiation = pos 7_000; wind = pos 2_000 }
 
 -- the entries at the two days
 abbrev winterEntries : ℕ → Entries
@@ -228,19 +228,31 @@ roots = (
   root-at (pos 500) 12_291_883_230_000_000 110_868_765 refl (record { low = lit≤ tt; high = lit< tt }),
 )
 
-pub days : Worked station winterDay winterMeans 0 × Worked station summerDay summerMeans 3_518 × Worked station summerDay threeMeans 3_356
-unfolding holds isDate yearLength readingsOf clearOf meansOf earlierOf sheet.sumOf sheet.clearSum sheet.Q sheet.aboveTwiceClear sheet.sumBelowOne sheet.U sheet.V2 sheet.V4 sheet.V6 sheet.V7 sheet.V8 sheet.e sheet.D sheet.M sheet.g sheet.w1 sheet.w2 sheet.ρ sheet.K sheet.N sheet.fourthPower sheet.B sheet.emittance sheet.Rb sheet.S sheet.Rn sheet.soilHeat sheet.H sheet.countedWind sheet.Wf sheet.«V» sheet.T sheet.drying sheet.A sheet.Figure
-days = (
-  worked station winterDay winterMeans (winterEntries 954_675) (entries .0) constants (roots .0) refl refl,
-  worked station summerDay summerMeans (summerEntries 954_675) (entries .1) constants (roots .1) refl refl,
-  worked station summerDay threeMeans (summerEntries 954_675) (entries .1) constants (roots .1) refl refl,
+-- the two days, and the second after three means
+abbrev Days : Type 0
+Days = Worked station winterDay winterMeans 0 × Worked station summerDay summerMeans 3_518 × Worked station summerDay threeMeans 3_356
+
+-- the windy day with the limits 1,500, 1,200 and 1,000; at the last the figure is that of the summer day, whose wind run is 1,000
+abbrev Limits : Type 0
+Limits = Worked station windyDay summerMeans 3_925 × Worked (limited 1_200) windyDay summerMeans 3_680 × Worked (limited 1_000) windyDay summerMeans 3_518
+
+all-worked : Days × Limits
+unfolding entriesOf holds isDate yearLength readingsOf clearOf meansOf earlierOf sheet.sumOf sheet.clearSum sheet.Q sheet.aboveTwiceClear sheet.sumBelowOne sheet.U sheet.V2 sheet.V4 sheet.V6 sheet.V7 sheet.V8 sheet.e sheet.D sheet.M sheet.g sheet.w1 sheet.w2 sheet.ρ sheet.K sheet.N sheet.fourthPower sheet.B sheet.emittance sheet.Rb sheet.S sheet.Rn sheet.soilHeat sheet.H sheet.countedWind sheet.Wf sheet.«V» sheet.T sheet.drying sheet.A sheet.Figure
+all-worked = (
+  (
+    worked station winterDay winterMeans (winterEntries 954_675) (entries .0) constants (roots .0) refl refl,
+    worked station summerDay summerMeans (summerEntries 954_675) (entries .1) constants (roots .1) refl refl,
+    worked station summerDay threeMeans (summerEntries 954_675) (entries .1) constants (roots .1) refl refl,
+  ),
+  (
+    worked station windyDay summerMeans (summerEntries 954_675) (entries .1) constants (roots .1) refl refl,
+    worked (limited 1_200) windyDay summerMeans (summerEntries 954_675) (entries .1) constants (roots .1) refl refl,
+    worked (limited 1_000) windyDay summerMeans (summerEntries 954_675) (entries .1) constants (roots .1) refl refl,
+  ),
 )
 
--- with the limits 1,500, 1,200 and 1,000; at the last the figure is that of the day with 1,000
-pub limits : Worked station windyDay summerMeans 3_925 × Worked (limited 1_200) windyDay summerMeans 3_680 × Worked (limited 1_000) windyDay summerMeans 3_518
-unfolding entriesOf holds isDate yearLength readingsOf clearOf meansOf earlierOf sheet.sumOf sheet.clearSum sheet.Q sheet.aboveTwiceClear sheet.sumBelowOne sheet.U sheet.V2 sheet.V4 sheet.V6 sheet.V7 sheet.V8 sheet.e sheet.D sheet.M sheet.g sheet.w1 sheet.w2 sheet.ρ sheet.K sheet.N sheet.fourthPower sheet.B sheet.emittance sheet.Rb sheet.S sheet.Rn sheet.soilHeat sheet.H sheet.countedWind sheet.Wf sheet.«V» sheet.T sheet.drying sheet.A sheet.Figure
-limits = (
-  worked station windyDay summerMeans (summerEntries 954_675) (entries .1) constants (roots .1) refl refl,
-  worked (limited 1_200) windyDay summerMeans (summerEntries 954_675) (entries .1) constants (roots .1) refl refl,
-  worked (limited 1_000) windyDay summerMeans (summerEntries 954_675) (entries .1) constants (roots .1) refl refl,
-)
+pub days : Days
+days = all-worked .0
+
+pub limits : Limits
+limits = all-worked .1

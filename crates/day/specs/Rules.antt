@@ -7,6 +7,7 @@ use lib.IntN.{ℤ, pos, negsuc}
 use lib.Signed.{ltZ, leZ}
 use Rattle.numbers.specs.Ranges.{inRange}
 use Rattle.sheet.specs.Limits as limits
+-- the limit that kind 1 keeps, for the crates above, which do not rest on `sheet`
 pub use Rattle.sheet.specs.Limits.{routineLimit}
 use Rattle.day.specs.declared.Mean.{Mean}
 use Rattle.day.specs.declared.Mean.the-variants.{Present, Absent}
@@ -29,8 +30,8 @@ abbrev pub anyOf : List Bool → Bool
 anyOf [] = false
 anyOf (b ∷ bs) = cond b true (anyOf bs)
 
--- 3: a station field out of range. Code: four capitals A to Z. Minimum: 50 to 200. Elevation: 0 to 3,000. c1 to c5: any. A wind limit out of range
--- (02, W2).
+-- 3: a station field out of range. Code: four capitals A to Z. Minimum: 50 to 200. Elevation: 0 to 3,000. c1 to c5: any. "A
+-- limit out of range falls under 3" (02, W2).
 abbrev pub notCapital : ℕ → Bool
 notCapital x = ltb x 65 || ltb 90 x
 

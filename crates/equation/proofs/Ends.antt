@@ -1,4 +1,4 @@
--- A number in range lies between the range's ends, as two inequalities. Assumes nothing.
+-- A number in range lies between the range's ends, or between ends that are enough, as two inequalities. Assumes nothing.
 use mathlib.Core.Bool.{_&&_}
 use Prim.Native.Nat.{ℕ}
 use lib.Dec.{T}
@@ -8,7 +8,7 @@ use Rattle.numbers.specs.Ranges.{from_to_, minus_to_, InRange}
 use Rattle.numbers.proofs.RangeArithmetic.{both}
 use Rattle.numbers.proofs.RangeTests.{in-range-test}
 use Rattle.sheet.specs.Quantities as quantities
-use Rattle.sheet.proofs.Choices.{limit-counts}
+use Rattle.sheet.proofs.Laws.{limit-counts}
 
 -- a low end a and a high end b
 pub record Between (a b z : ℤ) : Type 0 where

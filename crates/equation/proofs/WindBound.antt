@@ -1,4 +1,5 @@
--- The wind factor, the vapour pressure deficit and the drying term T of the sheet against the equation. Assumes nothing.
+-- The wind run that counts, the wind factor, the vapour pressure deficit and the drying term T of the sheet against the equation. At the routine's limit
+-- the first is document 01's (`as-before`). Assumes nothing.
 use mathlib.Core.Path.{_≡_, refl, sym, ap, subst}
 use mathlib.Core.Bool.{Bool, true, false, cond}
 use lib.Dec.{T}
@@ -8,7 +9,7 @@ use Rattle.numbers.specs.Whole.{_÷↓_, _÷0_, at-mostℤ}
 use Rattle.numbers.specs.Solver.{con, _:+_, _:-_, _:*_, _:=_}
 use Rattle.numbers.specs.IntegerSolver.{ringℤ}
 use Rattle.numbers.specs.Ratios.{_over_}
-use Rattle.numbers.specs.Fractions.{ℚ, fromℤ, _/ℚ_, _+ℚ_, _-ℚ_, _*ℚ_, _÷ℚ_, nonneg, _≤ℚ_, at-mostℚ}
+use Rattle.numbers.specs.Fractions.{ℚ, _/ℚ_, _+ℚ_, _-ℚ_, _*ℚ_, _÷ℚ_, nonneg, _≤ℚ_, at-mostℚ}
 use Rattle.numbers.proofs.FractionSolver.{ringℚ, _#_}
 use Rattle.numbers.proofs.Order.{NonNeg, nonneg-add, nonneg-mul, nonneg-ratio, nonneg-of, gap, from-gap, ≤ℚ-refl, ≤ℚ-ratio}
 use Rattle.numbers.proofs.WholeFractions.{fromℤ-mono}
@@ -34,14 +35,14 @@ limit-bounded l x nl nx = by-test (nonneg (l -ℚ x)) refl
     by-test true p = bounded-nonneg nx (record { le = subst T (sym p) tt })
     by-test false p = bounded-nonneg nl (≤ℚ-refl l)
 
--- the wind run that counts: at most the station's limit, and so at most 150 miles
+-- the wind run that counts: at most the station's limit, and so at most the routine's
 pub u-rounded : {limit : ℤ} → IsLimit limit → (w : ℤ) → pos 0 ≤ℤ w → w ≤ℤ pos 9999 →
-    Rounded (sheet.countedWind limit w) (1 over 10) (equation.u (tenths limit) (tenths w)) (150 over 1) (0 over 1)
+    Rounded (sheet.countedWind limit w) (1 over 10) (equation.u (tenths limit) (tenths w)) (routineLimit over 10) (0 over 1)
 unfolding sheet.countedWind equation.u
 u-rounded {limit} is w lo hi =
-    let size = in-range limit (pos 0) (pos routineLimit) (1 over 10) (150 over 1) (is .low) (is .high) tt tt tt .size in
-    sized (150 over 1) (bounded-weaken (limit-bounded (tenths limit) (tenths w) (in-tenths (is .low)) (in-tenths lo)) (size .high))
-    (limited-above limit tt (bounded-weaken size (≤ℚ-ratio (150 over 1) (9999 over 10) tt))
+    let size = in-range limit (pos 0) (pos routineLimit) (1 over 10) (routineLimit over 10) (is .low) (is .high) tt tt tt .size in
+    sized (routineLimit over 10) (bounded-weaken (limit-bounded (tenths limit) (tenths w) (in-tenths (is .low)) (in-tenths lo)) (size .high))
+    (limited-above limit tt (bounded-weaken size (≤ℚ-ratio (routineLimit over 10) (9999 over 10) tt))
     (in-range w (pos 0) (pos 9999) (1 over 10) (9999 over 10) lo hi tt tt tt))
   where
     in-tenths : {z : ℤ} → pos 0 ≤ℤ z → NonNeg (tenths z)
@@ -52,7 +53,7 @@ pub as-before : (w : ℤ) → (sheet.countedWind (pos routineLimit) w ≡ at-mos
 unfolding sheet.countedWind equation.u
 as-before w = (refl, ap (λ (l : ℚ). at-mostℚ l (tenths w)) (ringℚ 0 (1500 # 1 :* 1 # 10 := 150 # 1) tt))
 
-pub Wf-rounded : {aw bw w : ℤ} {Aw Bw u : ℚ} → Rounded aw billionths Aw (1801 over 1000) (1 over 2000000000) → Rounded bw billionths Bw (111 over 10000) (1 over 2000000000) → Rounded w (1 over 10) u (150 over 1) (0 over 1) →
+pub Wf-rounded : {aw bw w : ℤ} {Aw Bw u : ℚ} → Rounded aw billionths Aw (1801 over 1000) (1 over 2000000000) → Rounded bw billionths Bw (111 over 10000) (1 over 2000000000) → Rounded w (1 over 10) u (routineLimit over 10) (0 over 1) →
     Rounded (sheet.Wf aw bw w) billionths (Aw +ℚ 16093 /ℚ 10000 *ℚ Bw *ℚ u) (45 over 10) (123 over 1000000000)
 unfolding sheet.Wf
 Wf-rounded {aw = aw} {bw = bw} {w = w} {Aw = Aw} {Bw = Bw} {u = u} ha hb hw =

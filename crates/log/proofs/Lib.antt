@@ -23,4 +23,5 @@ pub mod Counted
 pub mod Longest
 pub mod WithoutKind
 pub mod WithoutCrops
+pub mod FirstStation
 pub mod LimitedStations

@@ -1,83 +1,27 @@
 -- A station's record of kind 1 and the same as one of kind 8 with the limit 1,500 give the same answers. The theorem is `same-answers`. Assumes nothing.
 use mathlib.Core.Path.{_≡_, refl, sym, ap, _∙_, subst}
 use mathlib.Core.Bool.{Bool, true, false, cond}
-use mathlib.Core.List.{List, [], _∷_, _++_, append-assoc}
-use Prim.Native.Nat.{ℕ, suc, _+_, _≤_}
+use mathlib.Core.List.{List, [], _∷_, _++_}
+use Prim.Native.Nat.{ℕ, _+_, _≤_}
 use native.Mathlib.Omega.{arith}
 use borrow.Author.Tests.{le-leb, lt-leb, le-ltb}
-use lib.Dec.{ltb, leb}
-use lib.ListN.{length, getD, length-append, List·getD-append}
+use lib.Dec.{leb}
+use lib.ListN.{length, getD, length-append}
 use lib.Seq.{getD-append-add}
 use Rattle.answers.specs.Answers.{bytesOf}
 use Rattle.day.specs.Rules.{routineLimit, badStation}
 use Rattle.day.specs.declared.Station.{Station}
 use Rattle.records.specs.Bytes.{wordAt}
 use Rattle.records.specs.Record.{stationWith, stationAt, limitedStationAt, recordAt}
-use Rattle.records.specs.declared.Record.{Record}
 use Rattle.records.specs.declared.Record.the-variants as Record
-use Rattle.records.proofs.Alike.{Alike, station-alike}
-use Rattle.records.proofs.Part.{Part, rest-part}
+use Rattle.records.proofs.Alike.{station-alike}
 use Rattle.log.specs.LimitedStations.{limitBytes, withKindOne, withKindEight, StationThere, twoFurther, SameAnswers}
-use Rattle.log.specs.Log.{Past, unopened, block, opened, station, answersOf, faulty, holds, stepOf}
-use Rattle.log.specs.Log.{Reading, refused, accepted, prepend, onward, readFrom, readingOf, entriesOf, settled, longest, outcomeOf, leaves, bufferAfter}
+use Rattle.log.specs.Log.{Past, unopened, block, opened, Entry, station, answersOf}
+use Rattle.log.specs.Log.{Reading, refused, accepted, prepend, readFrom, readingOf, entriesOf, settled, longest, outcomeOf, leaves, bufferAfter}
 use Rattle.log.specs.declared.Outcome.the-variants.{Refused}
-use Rattle.log.proofs.Steps.{steps-enough}
-use Rattle.log.proofs.TwoParts.{pastAll, moved, read-last, two-parts}
+use Rattle.log.proofs.FirstStation.{openedBy, log, fields-there, first-read}
+use Rattle.log.proofs.TwoParts.{pastAll, moved, two-parts}
 use Rattle.log.proofs.Walked.{behind, behind-refused, behind-accepted}
-
--- ---- a station's record, of either kind
-
--- the reading of a log that begins with a station's record of n bytes
-stationFirst : ℕ → Station → List ℕ → Reading
-stationFirst n x rest = cond (badStation x) (refused 3 0) (prepend (station x) (moved n (readFrom (length rest + 1) rest 0 (block (opened x)))))
-
--- a kind byte, the fields, and what else the record has
-module _ (kind : ℕ) (fields more rest : List ℕ) where
-  abbrev log : List ℕ
-  log = kind ∷ (fields ++ (more ++ rest))
-
-  abbrev size : ℕ
-  size = length (kind ∷ (fields ++ more))
-
-  parts : (kind ∷ (fields ++ more)) ++ rest ≡ log
-  parts = ap (λ (l : List ℕ). kind ∷ l) (append-assoc fields more rest)
-
-  rest-there : Part log size rest
-  rest-there = subst (λ (l : List ℕ). Part l size rest) parts (rest-part (kind ∷ (fields ++ more)) rest)
-
-  whole-length : length log ≡ size + length rest
-  whole-length = sym (ap length parts) ∙ length-append (kind ∷ (fields ++ more)) rest
-
-  fields-there : Alike log 1 fields 0 (length fields)
-  fields-there =
-      record {
-        bytes = λ i below.
-            let on : 1 + i ≡ suc i = omega arith in
-            let same : 0 + i ≡ i = omega arith in
-            rw (on, same) (List·getD-append fields (more ++ rest) 0 i below);
-      }
-
-  module _ (n : ℕ) (sized : size ≡ n) where
-    rest-read : (p : Past) → readFrom (length log) log n p ≡ moved n (readFrom (length rest + 1) rest 0 p)
-    rest-read p =
-        ap (λ (at : ℕ). readFrom (length log) log at p) (omega arith)
-        ∙ read-last rest-there whole-length (length log) 0 p
-        ∙ (λ i. moved (sized i) (steps-enough rest (length log) (length rest + 1) 0 p (omega arith) (omega (arith, whole-length)) (omega arith) i))
-
-    first-read : {x : Station} → recordAt log 0 ≡ Record.Station n x → (q : Past) → readFrom (length log + 1) log 0 q ≡ stationFirst n x rest
-    unfolding readFrom stationFirst
-    first-read {x} is q =
-        let steps : length log + 1 ≡ suc (length log) = omega arith in
-        ap (λ (m : ℕ). readFrom m log 0 q) steps
-        ∙ ap (λ (r : Record). onward (stepOf log r q) 0 (readFrom (length log) log)) is
-        ∙ by (badStation x)
-      where
-        by : (b : Bool) → onward (cond b (faulty 3) (holds n (station x))) 0 (readFrom (length log) log)
-            ≡ cond b (refused 3 0) (prepend (station x) (moved n (readFrom (length rest + 1) rest 0 (block (opened x)))))
-        by true = refl
-        by false = ap (prepend (station x)) (rest-read (block (opened x)))
-
--- ---- the two records
 
 module _ (front fields rest : List ℕ) (there : StationThere front fields) where
   abbrev place : ℕ
@@ -137,13 +81,13 @@ module _ (front fields rest : List ℕ) (there : StationThere front fields) wher
   abbrev start : Past
   start = pastAll unopened (there .before)
 
-  read-one : readingOf s ≡ behind (there .before) (moved place (stationFirst 19 x rest))
+  read-one : readingOf s ≡ behind (there .before) (moved place (openedBy 19 x rest))
   read-one =
       two-parts front logOne (there .before) (there .whole)
       ∙ ap (λ (r : Reading). behind (there .before) (moved place r))
       (first-read 1 fields [] rest 19 (omega (arith, there .eighteen, length-append fields [])) one start)
 
-  read-eight : readingOf t ≡ behind (there .before) (moved place (stationFirst 21 x rest))
+  read-eight : readingOf t ≡ behind (there .before) (moved place (openedBy 21 x rest))
   read-eight =
       two-parts front logEight (there .before) (there .whole)
       ∙ ap (λ (r : Reading). behind (there .before) (moved place r))
@@ -155,7 +99,7 @@ module _ (front fields rest : List ℕ) (there : StationThere front fields) wher
       behind-refused (there .before) k further ∙ ap (refused k) (sym e) ∙ ap (twoFurther place) (sym (behind-refused (there .before) k at))
 
   same-reading : readingOf t ≡ twoFurther place (readingOf s)
-  unfolding stationFirst
+  unfolding openedBy
   same-reading = read-eight ∙ by (badStation x) (readFrom (length rest + 1) rest 0 (block (opened x))) ∙ ap (twoFurther place) (sym read-one)
     where
       by : (b : Bool) (r : Reading) → behind (there .before) (moved place (cond b (refused 3 0) (prepend (station x) (moved 21 r))))
@@ -186,6 +130,12 @@ module _ (front fields rest : List ℕ) (there : StationThere front fields) wher
         length-append fields (limitBytes ++ rest),
       )
 
+  same-accepted : length t ≤ longest → (es : List Entry) → readingOf s ≡ accepted es → (size : ℕ) → outcomeOf t size ≡ outcomeOf s size
+  same-accepted short es e size =
+      same-outcome short size
+      ∙ ap (λ (r : Reading). settled r size) (ap (twoFurther place) e ∙ sym e)
+      ∙ sym (outcome-of s (shorter short) size)
+
   same-buffer : length t ≤ longest → (lent : List ℕ) → bufferAfter t lent ≡ bufferAfter s lent
   unfolding bufferAfter
   same-buffer short lent =
@@ -199,4 +149,4 @@ module _ (front fields rest : List ℕ) (there : StationThere front fields) wher
       by (accepted es) = refl
 
   pub same-answers : SameAnswers place s t
-  same-answers = record { reading = same-reading; outcome = same-outcome; buffer = same-buffer }
+  same-answers = record { reading = same-reading; outcome = same-outcome; accepted-alike = same-accepted; buffer = same-buffer }

@@ -31,17 +31,13 @@ use Rattle.log.specs.Log.{planted, cropAnswers, answersTo, readFrom, rea
 use Rattle.log.specs.declared.Outcome.the-variants as outcome
 use Rattle.log.specs.WithoutKind.{recordWithout, readWithout, readingWithout, Without}
 use Rattle.log.proofs.CropFigures.{crop-figures-met}
-use Rattle.log.proofs.Sample.{sample, station}
+use Rattle.log.proofs.Sample.{sample, station, windless, noMean, oneMean, twoMeans}
 
 -- BEAN of 2008, from day 155 to day 255
 abbrev beans : List ℕ
 beans =
     6 ∷ 66 ∷ 69 ∷ 65 ∷ 78 ∷ 7 ∷ 216 ∷ 0 ∷ 155 ∷ 0 ∷ 255
     ∷ 20 ∷ 22 ∷ 30 ∷ 45 ∷ 65 ∷ 90 ∷ 105 ∷ 107 ∷ 95 ∷ 60 ∷ 30 ∷ []
-
--- day d of 2008, all temperatures of high and low byte, the wind missing
-abbrev pub windless : ℕ → ℕ → ℕ → List ℕ
-windless d high low = 2 ∷ 7 ∷ 216 ∷ 0 ∷ d ∷ high ∷ low ∷ high ∷ low ∷ high ∷ low ∷ high ∷ low ∷ 0 ∷ 0 ∷ 128 ∷ 0 ∷ []
 
 -- day 180 of 2008: 90, 55, 72 and 50 °F, 700 cal/cm²/d, 100 miles
 abbrev summer : List ℕ
@@ -53,22 +49,13 @@ cropLog =
     station ++ beans ++ windless 178 2 188 ++ windless 179 2 198 ++ summer
     ++ station ++ windless 177 1 199 ++ windless 178 2 98 ++ windless 179 3 82 ++ summer
 
-abbrev pub means : Earlier
-means = record { one = Present (pos 710); two = Present (pos 700); three = Absent }
-
 -- ---- the days without wind are refused
-
-abbrev pub none : Earlier
-none = record { one = Absent; two = Absent; three = Absent }
-
-abbrev pub one : ℕ → Earlier
-one f = record { one = Present (pos f); two = Absent; three = Absent }
 
 -- the verdict at the offset of a day
 abbrev at : ℕ → Earlier → Verdict
 at offset earlier = judged (stationAt cropLog 1) (dayAt cropLog offset) earlier
 
-lacking : (at 42 none ≡ Refused Missing) × (at 59 (one 700) ≡ Refused Missing) × (at 112 none ≡ Refused Missing) × (at 129 (one 455) ≡ Refused Missing)
+lacking : (at 42 noMean ≡ Refused Missing) × (at 59 (oneMean 700) ≡ Refused Missing) × (at 112 noMean ≡ Refused Missing) × (at 129 (oneMean 455) ≡ Refused Missing)
     × (at 146 (record { one = Present (pos 610); two = Present (pos 455); three = Absent }) ≡ Refused Missing)
 unfolding judged standingOf holds stationAt dayAt wordAt signedOf signedAt isDate yearLength
 lacking = (refl, refl, refl, refl, refl)
@@ -84,7 +71,7 @@ abbrev front : Verdict → Verdict → List Answer
 front v w = answer.Station (stationAt cropLog 1 .code) ∷ (sown 42 v ++ (sown 59 w ++ []))
 
 -- record 4 is an answered day of the beans' season
-pub crop-day : CropDay cropLog 4 (stationAt cropLog 1) (dayAt cropLog 76) means 23 (cropAt cropLog 20)
+pub crop-day : CropDay cropLog 4 (stationAt cropLog 1) (dayAt cropLog 76) twoMeans 23 (cropAt cropLog 20)
 unfolding readingOf readFrom recordAt stationAt dayAt cropAt wordAt signedOf signedAt isDate yearLength daysBefore goodDate counted earlierMeans verdictOf Answered badCrop inSeason
 crop-day =
     record {
@@ -140,9 +127,9 @@ unfolding outcomeOf readingOf readFrom recordAt stationAt dayAt cropAt wordAt si
 outcome-is = λ i. let n = length (bytesOf (worked i)) in cond (ltb 84 n) (outcome.Refused 12 n) (outcome.Written n)
 
 -- so every hypothesis is met, and what is promised holds of this day
-pub kept : CropFigureAt (stationAt cropLog 1) (dayAt cropLog 76) means 23 (cropAt cropLog 20) (bufferAfter cropLog lent)
+pub kept : CropFigureAt (stationAt cropLog 1) (dayAt cropLog 76) twoMeans 23 (cropAt cropLog 20) (bufferAfter cropLog lent)
 unfolding EveryCropFigure CropFiguresOwed AnsweredLog
-kept = crop-figures-met cropLog lent (82, outcome-is) 4 23 (stationAt cropLog 1) (dayAt cropLog 76) means (cropAt cropLog 20) crop-day
+kept = crop-figures-met cropLog lent (82, outcome-is) 4 23 (stationAt cropLog 1) (dayAt cropLog 76) twoMeans (cropAt cropLog 20) crop-day
 
 -- the last two bytes are as they were
 pub bytes : bufferAfter cropLog lent ≡

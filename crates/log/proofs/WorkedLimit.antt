@@ -27,8 +27,7 @@ use Rattle.log.specs.Log.{bare, answersTo, readFrom, readingOf, entriesO
 use Rattle.log.specs.WithoutKind.{recordWithout, readWithout, readingWithout, Without}
 use Rattle.log.specs.declared.Outcome.the-variants as outcome
 use Rattle.log.proofs.Demand.{log-within-bound}
-use Rattle.log.proofs.Sample.{sample, fields, station}
-use Rattle.log.proofs.WorkedCrop.{windless, means, none, one}
+use Rattle.log.proofs.Sample.{sample, fields, station, windless, noMean, oneMean, twoMeans}
 
 -- LIDW as kind 8 with the limit 1,000
 abbrev limitedStation : List ℕ
@@ -50,8 +49,8 @@ first = limitedStationAt limitLog 1
 abbrev second : Station
 second = stationAt limitLog 73
 
-lacking : (judged first (dayAt limitLog 22) none ≡ Refused Missing) × (judged first (dayAt limitLog 39) (one 700) ≡ Refused Missing)
-    × (judged second (dayAt limitLog 92) none ≡ Refused Missing) × (judged second (dayAt limitLog 109) (one 700) ≡ Refused Missing)
+lacking : (judged first (dayAt limitLog 22) noMean ≡ Refused Missing) × (judged first (dayAt limitLog 39) (oneMean 700) ≡ Refused Missing)
+    × (judged second (dayAt limitLog 92) noMean ≡ Refused Missing) × (judged second (dayAt limitLog 109) (oneMean 700) ≡ Refused Missing)
 unfolding judged standingOf holds stationAt limitedStationAt dayAt wordAt signedOf signedAt isDate yearLength
 lacking = (refl, refl, refl, refl)
 
@@ -60,7 +59,7 @@ abbrev front : Verdict → Verdict → List Answer
 front v w = answer.Station (first .code) ∷ dayAnswer (dayAt limitLog 22) v ∷ dayAnswer (dayAt limitLog 39) w ∷ []
 
 -- record 3 is an answered day at a station of kind 8
-pub answered : AnsweredDay limitLog 3 first (dayAt limitLog 56) means 23
+pub answered : AnsweredDay limitLog 3 first (dayAt limitLog 56) twoMeans 23
 unfolding readingOf readFrom recordAt stationAt limitedStationAt dayAt wordAt signedOf signedAt isDate yearLength daysBefore goodDate counted earlierMeans verdictOf Answered
 answered =
     record {
@@ -105,9 +104,9 @@ unfolding outcomeOf readingOf readFrom recordAt stationAt limitedStationAt dayAt
 outcome-is = λ i. let n = length (bytesOf (worked i)) in cond (ltb 66 n) (outcome.Refused 12 n) (outcome.Written n)
 
 -- so every hypothesis is met, and demand 3 holds of this day
-pub kept : FigureAt first (dayAt limitLog 56) means 23 (bufferAfter limitLog lent)
+pub kept : FigureAt first (dayAt limitLog 56) twoMeans 23 (bufferAfter limitLog lent)
 unfolding FiguresOwed AnsweredLog
-kept = log-within-bound limitLog lent (64, outcome-is) 3 23 first (dayAt limitLog 56) means answered
+kept = log-within-bound limitLog lent (64, outcome-is) 3 23 first (dayAt limitLog 56) twoMeans answered
 
 -- the last two bytes are as they were
 pub bytes : bufferAfter limitLog lent ≡

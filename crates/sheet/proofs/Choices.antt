@@ -9,8 +9,6 @@ use mir.Syntax.{w64}
 use mir.Val.{ofZ}
 use borrow.Author.Tests.{ltb-false, leb-false}
 use Rattle.numbers.specs.Ranges.{InRange, from_to_, minus_to_}
-use Rattle.numbers.proofs.RangeArithmetic.{wider}
-use Rattle.sheet.specs.Quantities as quantities
 
 -- the machine tests a and b, which are a′ and b′
 module _ (test : ℤ → ℤ → Bool) {a a′ b b′ : ℤ} (p : a ≡ a′) (q : b ≡ b′) (x y : ℤ) where
@@ -46,7 +44,3 @@ pub at-least-in : {a b x y : ℕ} {l z : ℤ} → InRange (from a to b) l → In
 at-least-in {l = pos l} {z = pos n} p r e = omega (arith, ltb-false n l e)
 at-least-in {l = pos l} {z = negsuc n} p r e = let q : _≡_ {A = ℕ} 0 1 = cc in absurd (omega arith)
 at-least-in {l = negsuc l} p r e = absurd (p .bounds)
-
--- a wind limit is itself a wind run that counts
-pub limit-counts : {l : ℤ} → InRange quantities.windLimit l → InRange quantities.countedWind l
-limit-counts {l} p = record { bounds = wider quantities.windLimit quantities.countedWind l tt (p .bounds) }

@@ -8,6 +8,7 @@ use lib.IntN.{ℤ, pos, negsuc, natAbs, _*ℤ_, _-ℤ_}
 use borrow.Author.Tests.{ltb-false}
 use Rattle.numbers.specs.Whole.{_÷0_, wholeRoot, WholeRoot}
 use Rattle.numbers.specs.Ranges.{InRange, from_to_}
+use Rattle.numbers.proofs.RangeArithmetic.{wider}
 use Rattle.numbers.proofs.WholeRoots.{root-is}
 use Rattle.sheet.specs.Quantities as quantities
 use Rattle.sheet.specs.StepSheet.{w1, aboveTwiceClear, ρ, soilHeat}
@@ -47,3 +48,7 @@ unfolding soilHeat
 soil-some m z {k = pos (suc k)} p = refl
 soil-some m z {k = pos zero} p = absurd (omega (arith, p .bounds .0))
 soil-some m z {k = negsuc k} p = absurd (p .bounds)
+
+-- a wind limit is itself a wind run that counts
+pub limit-counts : {l : ℤ} → InRange quantities.windLimit l → InRange quantities.countedWind l
+limit-counts {l} p = record { bounds = wider quantities.windLimit quantities.countedWind l tt (p .bounds) }

@@ -12,7 +12,7 @@ radiation = from 0 to 12_000
 abbrev pub wind : Range
 wind = from 0 to 9_999
 
--- a station's wind limit: "in tenths, 1,000 to 1,500" (W2). The highest is the routine's, which a record of kind 1 keeps.
+-- a station's wind limit: "in tenths, 1,000 to 1,500" (02, W2). The highest is the routine's, which a record of kind 1 keeps.
 abbrev pub routineLimit : ℕ
 routineLimit = 1_500
 

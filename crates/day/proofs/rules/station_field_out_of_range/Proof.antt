@@ -1,5 +1,5 @@
--- `day::rules::station_field_out_of_range` meets its contract. `past1` to `past7`: where the tests so far have failed, those to come decide.
--- Assumes nothing.
+-- `day::rules::station_field_out_of_range` meets its contract. `first-letter-passed` to `elevation-passed`: where no test so far holds, those to come
+-- decide. Assumes nothing.
 use mathlib.Core.Path.{_≡_, refl, sym, ap, _∙_}
 use mathlib.Core.Bool.{Bool, not}
 use mathlib.Core.List.{List}
@@ -19,50 +19,50 @@ faults c = let x = c .args in stationFaults (x .first) (x .second) (x .third) (x
 abbrev Decided : ℕ → tie.Start → Type 0
 Decided k c = anyOf (drop k (faults c)) ≡ anyOf (faults c)
 
-past1 : (c : tie.Else1) → Decided 1 (c .before .before)
-past1 c = first-there _ (sym (c .before .not-capital .ensures) ∙ c .if1 .left) refl
+first-letter-passed : (c : tie.Else1) → Decided 1 (c .before .before)
+first-letter-passed c = first-there _ (sym (c .before .not-capital .ensures) ∙ c .if1 .left) refl
 
-past2 : (c : tie.Else2) → Decided 2 (c .before .before .before .before)
-past2 c = first-there _ (sym (c .before .not-capital2 .ensures) ∙ c .if2 .left) refl ∙ past1 (c .before .before)
+second-letter-passed : (c : tie.Else2) → Decided 2 (c .before .before .before .before)
+second-letter-passed c = first-there _ (sym (c .before .not-capital2 .ensures) ∙ c .if2 .left) refl ∙ first-letter-passed (c .before .before)
 
-past3 : (c : tie.Else3) → Decided 3 (c .before .before .before .before .before .before)
-past3 c = first-there _ (sym (c .before .not-capital3 .ensures) ∙ c .if3 .left) refl ∙ past2 (c .before .before)
+third-letter-passed : (c : tie.Else3) → Decided 3 (c .before .before .before .before .before .before)
+third-letter-passed c = first-there _ (sym (c .before .not-capital3 .ensures) ∙ c .if3 .left) refl ∙ second-letter-passed (c .before .before)
 
-past4 : (c : tie.Else4) → Decided 4 (c .before .before .before .before .before .before .before .before)
-past4 c = first-there _ (sym (c .before .not-capital4 .ensures) ∙ c .if4 .left) refl ∙ past3 (c .before .before)
+fourth-letter-passed : (c : tie.Else4) → Decided 4 (c .before .before .before .before .before .before .before .before)
+fourth-letter-passed c = first-there _ (sym (c .before .not-capital4 .ensures) ∙ c .if4 .left) refl ∙ third-letter-passed (c .before .before)
 
-past5 : (c : tie.Else5) → Decided 5 (c .before .before .before .before .before .before .before .before .before)
-past5 c = first-there _ (le-ltb _ _ (c .if5 .left)) refl ∙ past4 (c .before)
+minimum-not-low : (c : tie.Else5) → Decided 5 (c .before .before .before .before .before .before .before .before .before)
+minimum-not-low c = first-there _ (le-ltb _ _ (c .if5 .left)) refl ∙ fourth-letter-passed (c .before)
 
-past6 : (c : tie.Else6) → Decided 6 (c .before .before .before .before .before .before .before .before .before .before)
-past6 c = first-there _ (le-ltb _ _ (c .if6 .left)) refl ∙ past5 (c .before)
+minimum-not-high : (c : tie.Else6) → Decided 6 (c .before .before .before .before .before .before .before .before .before .before)
+minimum-not-high c = first-there _ (le-ltb _ _ (c .if6 .left)) refl ∙ minimum-not-low (c .before)
 
-past7 : (c : tie.Else7) → Decided 7 (c .before .before .before .before .before .before .before .before .before .before .before)
-past7 c = first-there _ (le-ltb _ _ (c .if7 .left)) refl ∙ past6 (c .before)
+elevation-passed : (c : tie.Else7) → Decided 7 (c .before .before .before .before .before .before .before .before .before .before .before)
+elevation-passed c = first-there _ (le-ltb _ _ (c .if7 .left)) refl ∙ minimum-not-high (c .before)
 
 returns : tie.Need-returns
 returns c = first-here _ _ (sym (c .before .not-capital .ensures) ∙ c .if1 .taken)
 
 returns-2 : tie.Need-returns-2
-returns-2 c = first-here _ _ (sym (c .before .not-capital2 .ensures) ∙ c .if2 .taken) ∙ past1 (c .before .before)
+returns-2 c = first-here _ _ (sym (c .before .not-capital2 .ensures) ∙ c .if2 .taken) ∙ first-letter-passed (c .before .before)
 
 returns-3 : tie.Need-returns-3
-returns-3 c = first-here _ _ (sym (c .before .not-capital3 .ensures) ∙ c .if3 .taken) ∙ past2 (c .before .before)
+returns-3 c = first-here _ _ (sym (c .before .not-capital3 .ensures) ∙ c .if3 .taken) ∙ second-letter-passed (c .before .before)
 
 returns-4 : tie.Need-returns-4
-returns-4 c = first-here _ _ (sym (c .before .not-capital4 .ensures) ∙ c .if4 .taken) ∙ past3 (c .before .before)
+returns-4 c = first-here _ _ (sym (c .before .not-capital4 .ensures) ∙ c .if4 .taken) ∙ third-letter-passed (c .before .before)
 
 returns-5 : tie.Need-returns-5
-returns-5 c = first-here _ _ (lt-ltb _ _ (c .if5 .taken)) ∙ past4 (c .before)
+returns-5 c = first-here _ _ (lt-ltb _ _ (c .if5 .taken)) ∙ fourth-letter-passed (c .before)
 
 returns-6 : tie.Need-returns-6
-returns-6 c = first-here _ _ (lt-ltb _ _ (c .if6 .taken)) ∙ past5 (c .before)
+returns-6 c = first-here _ _ (lt-ltb _ _ (c .if6 .taken)) ∙ minimum-not-low (c .before)
 
 returns-7 : tie.Need-returns-7
-returns-7 c = first-here _ _ (lt-ltb _ _ (c .if7 .taken)) ∙ past6 (c .before)
+returns-7 c = first-here _ _ (lt-ltb _ _ (c .if7 .taken)) ∙ minimum-not-high (c .before)
 
 returns-8 : tie.Need-returns-8
-returns-8 c = any-last _ (ap not (c .in-range .ensures)) ∙ past7 (c .before)
+returns-8 c = any-last _ (ap not (c .in-range .ensures)) ∙ elevation-passed (c .before)
 
 pub station-field-out-of-range-spec : {M : Type 1} → statement M
 station-field-out-of-range-spec =

@@ -3,7 +3,8 @@ use mathlib.Core.Path.{_∙_}
 use lib.Signed.{ltZ}
 use mir.Facts.{toZ-ofZ}
 use Rattle.sheet.specs.StepSheet.{countedWind}
-use Rattle.sheet.proofs.Choices.{taken, left, at-most-in, limit-counts}
+use Rattle.sheet.proofs.Choices.{taken, left, at-most-in}
+use Rattle.sheet.proofs.Laws.{limit-counts}
 use Rattle.sheet.proofs.Values.{keep}
 use Rattle.sheet.proofs.wind.counted_wind.Statement.{statement}
 use Rattle.sheet.proofs.wind.counted_wind.Tie as tie
