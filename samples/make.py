@@ -56,4 +56,4 @@ write("cut_off.log", b"".join(worked)[:-3])
 # The same windy days twice: with a limit of 100 miles, which most of them are above, and with the 150 miles of kind 1.
 windy = list(season(2008, 180, 189, 0, calmest=900))
 fields = LIDW[1:]
-write("wind_limit.log", limited_station(b"UTAH", *fields, 1000), *windy, station(b"FREE", *fields), *windy)
+write("wind_limit.log", limited_station(b"UTAH", *fields, 1000), *windy, station(b"KIMB", *fields), *windy)

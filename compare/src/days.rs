@@ -98,7 +98,7 @@ const fn temperature(set: fn(&mut Case, i64)) -> Field<Case> {
 const LOWEST_LIMIT: u16 = 1_000;
 
 const fn wind_limit(set: fn(&mut Case, i64)) -> Field<Case> {
-    // 33,768 is the lowest limit with the highest bit set.
+    // 33,768 is 1,000 with the highest bit set.
     let (low, high) = (LOWEST_LIMIT as i64, ROUTINE_LIMIT as i64);
     field(set, low, high, &[0, 33_768, 65_535])
 }
@@ -728,8 +728,9 @@ pub fn crop_edges(random: &mut Random) -> Vec<Vec<u8>> {
 }
 
 /// Logs of one station and days with wind runs below its limit, at it and above: each field of the station at its edges,
-/// and every limit of the range and one beyond. Each is of kind 8, and of kind 1 where the limit is the routine's; it
-/// stands alone, behind a block with the lowest limit, and cut off before its limit and inside.
+/// and every limit of the range and one beyond each end. Each is of kind 8, and of kind 1 where the limit is the routine's;
+/// it stands alone, and behind a block with a crop and the lowest limit. And a record of kind 8 that is cut off before its
+/// limit and inside.
 pub fn station_edges(random: &mut Random) -> Vec<Vec<u8>> {
     let station = Station {
         wind_limit: ROUTINE_LIMIT,
@@ -766,16 +767,22 @@ pub fn station_edges(random: &mut Random) -> Vec<Vec<u8>> {
         wind_limit: LOWEST_LIMIT,
         ..station
     };
-    let before = block(&lowest, &station_record(&lowest));
-    let mut logs = Vec::new();
+    let in_season = Crop {
+        year: 2_008,
+        start: 100,
+        full: 300,
+        ..crop(random, (2_008, 180))
+    };
+    let opening = [&station_record(&lowest)[..], &crop_record(&in_season)].concat();
+    let before = block(&lowest, &opening);
+    let mut logs = [19, 20].map(|end| opening[..end].to_vec()).to_vec();
     for station in &stations {
-        let limited = limited_record(station);
-        for record in BTreeSet::from([station_record(station), limited.to_vec()]) {
+        let records = [station_record(station), limited_record(station).to_vec()];
+        for record in BTreeSet::from(records) {
             let whole = block(station, &record);
             logs.push([&before[..], &whole].concat());
             logs.push(whole);
         }
-        logs.extend([19, 20].map(|end| limited[..end].to_vec()));
     }
     logs
 }

@@ -156,13 +156,13 @@ impl Opinions {
 }
 
 /// A day with a figure that its station's own limit enters.
-const CUT: &str = "answered with a wind run cut by a limit below the routine's";
+const LIMITED: &str = "answered with a wind run cut by a limit below the routine's";
 
 /// How often a refusal was given for one of its reasons alone, by the reason.
 #[derive(Default)]
-struct Alone(BTreeMap<&'static str, u64>);
+struct ByOneReason(BTreeMap<&'static str, u64>);
 
-impl Alone {
+impl ByOneReason {
     fn count<Of>(&mut self, reasons: &[Reason<Of>], of: &Of) {
         let holding: Vec<_> = reasons.iter().filter(|(_, holds)| holds(of)).collect();
         if let [(reason, _)] = holding[..] {
@@ -183,10 +183,10 @@ struct DayTally {
     days: u64,
     answered: u64,
     above_zero: u64,
-    /// Those that are `CUT`.
+    /// Those that are `LIMITED`.
     limited: u64,
     refused: [u64; 13],
-    refused_for_station: Alone,
+    refused_for_station: ByOneReason,
     refused_for_earlier: u64,
     largest: Largest<Case>,
     opinions: [Opinions; Known::ALL.len()],
@@ -255,7 +255,7 @@ impl DayTally {
             "days handed in alone: {}, answered {}, with a figure above zero {}",
             self.days, self.answered, self.above_zero
         );
-        println!("  {CUT}: {}", self.limited);
+        println!("  {LIMITED}: {}", self.limited);
         for number in [3, 6, 7, 8, 9, 10, 11] {
             println!("  refusal {number}: {}", self.refused[number]);
         }
@@ -446,20 +446,22 @@ const STATION_KINDS: [u8; 2] = [1, 8];
 
 #[derive(Default)]
 struct StationTally {
-    /// The stations of accepted logs, by their kinds.
+    /// The stations of accepted logs, by their kinds, and those of them that end a crop.
     kinds: [u64; STATION_KINDS.len()],
+    behind_crop: [u64; STATION_KINDS.len()],
     /// The logs that were refused with 3.
-    refused: Alone,
-    /// The days that are `CUT`.
+    refused: ByOneReason,
+    /// The days that are `LIMITED`.
     limited: u64,
 }
 
 impl StationTally {
     fn count(&mut self, log: &[u8]) {
-        for kind in second::log::station_kinds(log).iter().flatten() {
-            for (met, of) in self.kinds.iter_mut().zip(STATION_KINDS) {
-                *met += u64::from(*kind == of);
-            }
+        for opening in second::log::openings(log).expect("the log is accepted") {
+            let kind = STATION_KINDS.iter().position(|kind| *kind == opening.kind);
+            let kind = kind.expect("a station's kind");
+            self.kinds[kind] += 1;
+            self.behind_crop[kind] += u64::from(opening.behind_crop);
         }
     }
 
@@ -474,13 +476,13 @@ impl StationTally {
     }
 
     fn print(&self) {
-        for (kind, met) in STATION_KINDS.iter().zip(self.kinds) {
-            println!("  stations of kind {kind} in accepted logs: {met}");
+        for ((kind, met), behind) in STATION_KINDS.iter().zip(self.kinds).zip(self.behind_crop) {
+            println!("  stations of kind {kind} in accepted logs: {met}, behind a crop {behind}");
         }
         for (reason, met) in self.refused.met(&station::REASONS) {
             println!("  refusal 3 for {reason} alone: {met} logs");
         }
-        println!("  {CUT}: {} days", self.limited);
+        println!("  {LIMITED}: {} days", self.limited);
     }
 }
 
@@ -498,7 +500,7 @@ const STANDINGS: [&str; 7] = [
 #[derive(Default)]
 struct CropTally {
     /// The logs that were refused with 13.
-    refused: Alone,
+    refused: ByOneReason,
     standings: [u64; STANDINGS.len()],
     figures: u64,
     /// Those that were a whole number and a half before they were rounded.
@@ -789,7 +791,10 @@ const LOG_KINDS: [(&str, IsOfKind); 13] = [
     ("of 65537 bytes", |log, _| log.len() == LONGEST_LOG + 1),
     ("longer", |log, _| log.len() > LONGEST_LOG + 1),
     ("with a station of kind 8, accepted", |log, _| {
-        second::log::station_kinds(log).is_ok_and(|kinds| kinds.contains(&8))
+        second::log::openings(log)
+            .iter()
+            .flatten()
+            .any(|opening| opening.kind == 8)
     }),
     ("with a crop figure", |_, report| {
         report.lines().any(|line| line.split(' ').count() == 2)
@@ -885,14 +890,16 @@ fn all_reached(days: &DayTally, logs: &LogTally, program: &ProgramTally) -> Resu
             ));
         }
     }
-    for (kind, met) in STATION_KINDS.iter().zip(stations.kinds) {
+    for (kind, met) in STATION_KINDS.iter().zip(stations.behind_crop) {
         if met == 0 {
-            return Err(format!("no accepted log had a station of kind {kind}"));
+            return Err(format!(
+                "no accepted log had a station of kind {kind} behind a crop"
+            ));
         }
     }
     for (of, met) in [("alone", days.limited), ("in a log", stations.limited)] {
         if met == 0 {
-            return Err(format!("no day {of} was {CUT}"));
+            return Err(format!("no day {of} was {LIMITED}"));
         }
     }
     for (standing, met) in STANDINGS.iter().zip(crops.standings) {
