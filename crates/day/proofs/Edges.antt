@@ -47,8 +47,8 @@ refused-is-judged st day earlier n e =
 -- ---- stations, days and earlier means
 
 -- document 01's LIDW, but for the first letter, the clear-day minimum, the elevation and the wind limit
-abbrev limited : ℕ → ℕ → ℕ → ℕ → Station
-limited letter minimum elevation limit =
+abbrev pub lidwWith : ℕ → ℕ → ℕ → ℕ → Station
+lidwWith letter minimum elevation limit =
     record {
       code = record { first = letter; second = 73; third = 68; fourth = 87 };
       c1 = pos 154;
@@ -63,7 +63,7 @@ limited letter minimum elevation limit =
 
 -- with kind 1's limit
 abbrev station : ℕ → ℕ → ℕ → Station
-station letter minimum elevation = limited letter minimum elevation routineLimit
+station letter minimum elevation = lidwWith letter minimum elevation routineLimit
 
 abbrev lidw : Station
 lidw = station 76 100 497
@@ -157,10 +157,10 @@ table =
     ∷ (atStation (station 76 201 497) gives 3)
     ∷ (atStation (station 76 100 3_000) gives 0)
     ∷ (atStation (station 76 100 3_001) gives 3)
-    ∷ (atStation (limited 76 100 497 999) gives 3)
-    ∷ (atStation (limited 76 100 497 1_000) gives 0)
-    ∷ (atStation (limited 76 100 497 1_500) gives 0)
-    ∷ (atStation (limited 76 100 497 1_501) gives 3)
+    ∷ (atStation (lidwWith 76 100 497 999) gives 3)
+    ∷ (atStation (lidwWith 76 100 497 1_000) gives 0)
+    ∷ (atStation (lidwWith 76 100 497 1_500) gives 0)
+    ∷ (atStation (lidwWith 76 100 497 1_501) gives 3)
     -- 6: the years, and the days of a leap year and of a common one
     ∷ (onDay (dated 1949 1) gives 6)
     ∷ (onDay (dated 1950 1) gives 0)

@@ -31,6 +31,7 @@ use Rattle.day.specs.declared.Refusal.the-variants.{StationField, BadDat
 use Rattle.day.specs.declared.Verdict.the-variants.{Figure}
 use Rattle.day.proofs.Tests.{AllFalse, all-false}
 use Rattle.day.proofs.DayBound.{within-bound}
+use Rattle.day.proofs.Edges.{lidwWith}
 use Rattle.day.proofs.Standings.{answered-figure}
 
 -- ---- the marked values
@@ -158,18 +159,7 @@ module _ (st : Station) (day : Day) (earlier : Earlier) (t : Entries) (entries-a
 
 -- the station of document 01's log, LIDW, with any wind limit; and with that of kind 1
 abbrev limited : ℕ → Station
-limited limit =
-    record {
-      code = record { first = 76; second = 73; third = 68; fourth = 87 };
-      c1 = pos 154;
-      c2 = pos 1_760;
-      c3 = pos 614;
-      c4 = negsuc 395;
-      c5 = pos 590;
-      minimum = 100;
-      elevation = 497;
-      limit = limit;
-    }
+limited limit = lidwWith 76 100 497 limit
 
 abbrev station : Station
 station = limited routineLimit

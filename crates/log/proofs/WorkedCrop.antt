@@ -8,7 +8,7 @@ use Prim.Native.Nat.{ℕ}
 use native.Mathlib.Omega.{arith}
 use lib.Dec.{ltb}
 use lib.IntN.{pos}
-use lib.ListN.{length, take, drop, replicate}
+use lib.ListN.{length, replicate}
 use Rattle.crops.specs.Crop.{badCrop, inSeason, above, cropFigure}
 use Rattle.crops.specs.declared.Crop.{Crop}
 use Rattle.day.specs.Calendar.{yearLength, isDate}
@@ -27,11 +27,11 @@ use Rattle.records.specs.Record.{stationAt, dayAt, cropAt, recordAt}
 use Rattle.log.specs.CropFigures.{CropDay, CropFigureAt, CropFiguresOwed, EveryCropFigure}
 use Rattle.log.specs.Demand.{AnsweredLog}
 use Rattle.log.specs.History.{daysBefore, goodDate, counted, earlierMeans, verdictOf}
-use Rattle.log.specs.Log.{planted, cropAnswers, answersTo, readFrom, readingOf, entriesOf, outcomeOf, leaves, bufferAfter}
+use Rattle.log.specs.Log.{planted, cropAnswers, answersTo, readFrom, readingOf, outcomeOf, leaves, bufferAfter}
 use Rattle.log.specs.declared.Outcome.the-variants as outcome
 use Rattle.log.specs.WithoutKind.{recordWithout, readWithout, readingWithout, Without}
 use Rattle.log.proofs.CropFigures.{crop-figures-met}
-use Rattle.log.proofs.Sample.{sample, station, windless, noMean, oneMean, twoMeans}
+use Rattle.log.proofs.Sample.{sample, station, day-there, windless, noMean, oneMean, twoMeans}
 
 -- BEAN of 2008, from day 155 to day 255
 abbrev beans : List ℕ
@@ -72,25 +72,13 @@ front v w = answer.Station (stationAt cropLog 1 .code) ∷ (sown 42 v ++ (sown 5
 
 -- record 4 is an answered day of the beans' season
 pub crop-day : CropDay cropLog 4 (stationAt cropLog 1) (dayAt cropLog 76) twoMeans 23 (cropAt cropLog 20)
-unfolding readingOf readFrom recordAt stationAt dayAt cropAt wordAt signedOf signedAt isDate yearLength daysBefore goodDate counted earlierMeans verdictOf Answered badCrop inSeason
+unfolding readingOf readFrom recordAt stationAt dayAt cropAt wordAt signedOf signedAt isDate yearLength daysBefore goodDate counted earlierMeans verdictOf Answered badCrop inSeason day-there
 crop-day =
     record {
       answered = record {
-        at = record {
-          before = take 4 (entriesOf (readingOf cropLog));
-          later = drop 5 (entriesOf (readingOf cropLog));
-          block = record {
-            station = stationAt cropLog 1;
-            days = dayAt cropLog 59 ∷ dayAt cropLog 42 ∷ [];
-            crop = planted (cropAt cropLog 20);
-          };
-          stands = refl;
-          index = refl;
-          stationed = refl;
-          means = refl;
-          dated = refl;
-          behind = sym (λ i. length (bytesOf (front (lacking .0 i) (lacking .1 i))));
-        };
+        at = day-there cropLog 4
+            (record { station = stationAt cropLog 1; days = dayAt cropLog 59 ∷ dayAt cropLog 42 ∷ []; crop = planted (cropAt cropLog 20) })
+            (dayAt cropLog 76) refl refl (sym (λ i. length (bytesOf (front (lacking .0 i) (lacking .1 i)))));
         others = λ r t. days .1 .answered r;
       };
       holds = refl;

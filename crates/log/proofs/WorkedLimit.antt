@@ -7,7 +7,7 @@ use mathlib.Core.List.{List, [], _∷_, _++_}
 use Prim.Native.Nat.{ℕ}
 use native.Mathlib.Omega.{arith}
 use lib.Dec.{ltb}
-use lib.ListN.{length, take, drop, replicate}
+use lib.ListN.{length, replicate}
 use Rattle.day.specs.Calendar.{yearLength, isDate}
 use Rattle.day.specs.Judgement.{holds, standingOf, judged, Answered}
 use Rattle.day.specs.declared.Refusal.the-variants.{Missing}
@@ -27,7 +27,7 @@ use Rattle.log.specs.Log.{bare, answersTo, readFrom, readingOf, entriesO
 use Rattle.log.specs.WithoutKind.{recordWithout, readWithout, readingWithout, Without}
 use Rattle.log.specs.declared.Outcome.the-variants as outcome
 use Rattle.log.proofs.Demand.{log-within-bound}
-use Rattle.log.proofs.Sample.{sample, fields, station, windless, noMean, oneMean, twoMeans}
+use Rattle.log.proofs.Sample.{sample, fields, station, day-there, windless, noMean, oneMean, twoMeans}
 
 -- LIDW as kind 8 with the limit 1,000
 abbrev limitedStation : List ℕ
@@ -63,17 +63,8 @@ pub answered : AnsweredDay limitLog 3 first (dayAt limitLog 56) twoMeans 23
 unfolding readingOf readFrom recordAt stationAt limitedStationAt dayAt wordAt signedOf signedAt isDate yearLength daysBefore goodDate counted earlierMeans verdictOf Answered
 answered =
     record {
-      at = record {
-        before = take 3 (entriesOf (readingOf limitLog));
-        later = drop 4 (entriesOf (readingOf limitLog));
-        block = record { station = first; days = dayAt limitLog 39 ∷ dayAt limitLog 22 ∷ []; crop = bare };
-        stands = refl;
-        index = refl;
-        stationed = refl;
-        means = refl;
-        dated = refl;
-        behind = sym (λ i. length (bytesOf (front (lacking .0 i) (lacking .1 i))));
-      };
+      at = day-there limitLog 3 (record { station = first; days = dayAt limitLog 39 ∷ dayAt limitLog 22 ∷ []; crop = bare }) (dayAt limitLog 56) refl refl
+          (sym (λ i. length (bytesOf (front (lacking .0 i) (lacking .1 i)))));
       others = λ r t. limits .2 .answered r;
     }
 

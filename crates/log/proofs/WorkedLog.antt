@@ -5,7 +5,7 @@ use mathlib.Core.Bool.{true}
 use mathlib.Core.List.{List, [], _∷_, _++_}
 use Prim.Native.Nat.{ℕ}
 use lib.IntN.{pos}
-use lib.ListN.{take, drop}
+use lib.ListN.{drop}
 use Rattle.day.specs.Calendar.{yearLength, isDate}
 use Rattle.day.specs.Judgement.{holds, standingOf, judged, Answered}
 use Rattle.day.specs.declared.Earlier.{Earlier}
@@ -18,10 +18,10 @@ use Rattle.records.specs.Bytes.{wordAt, signedOf, signedAt}
 use Rattle.log.specs.Days.{DayAt}
 use Rattle.log.specs.Demand.{AnsweredDay}
 use Rattle.log.specs.History.{daysBefore, goodDate, counted, earlierMeans, verdictOf}
-use Rattle.log.specs.Log.{bare, answersTo, readFrom, readingOf, entriesOf, outcomeOf, bufferAfter}
+use Rattle.log.specs.Log.{bare, answersTo, readFrom, readingOf, outcomeOf, bufferAfter}
 use Rattle.answers.specs.declared.Answer.the-variants as answer
 use Rattle.records.specs.Record.{stationAt, dayAt, recordAt}
-use Rattle.log.proofs.Sample.{sample, station, third}
+use Rattle.log.proofs.Sample.{sample, fields, station, plainDay, day-there, third}
 
 -- day 12, the third: two earlier means, of days that are refused
 abbrev means : Earlier
@@ -66,14 +66,9 @@ bytes = λ i. bytesOf (worked i) ++ (9 ∷ 9 ∷ [])
 
 -- ---- two blocks
 
--- a day of four temperatures of one byte, no radiation, and the wind's high byte: 128 with a low byte of 0 is missing
-abbrev plainDay : ℕ → ℕ → ℕ → ℕ → ℕ → ℕ → ℕ → List ℕ
-plainDay year-low d-high d-low high low wind-high wind-low =
-    2 ∷ 7 ∷ year-low ∷ d-high ∷ d-low ∷ high ∷ low ∷ high ∷ low ∷ high ∷ low ∷ high ∷ low ∷ 0 ∷ 0 ∷ wind-high ∷ wind-low ∷ []
-
--- LIDX with LIDW's fields
+-- LIDX with LIDW's other fields
 abbrev otherStation : List ℕ
-otherStation = 1 ∷ 76 ∷ 73 ∷ 68 ∷ 88 ∷ 0 ∷ 154 ∷ 6 ∷ 224 ∷ 2 ∷ 102 ∷ 254 ∷ 116 ∷ 2 ∷ 78 ∷ 0 ∷ 100 ∷ 1 ∷ 241 ∷ []
+otherStation = 1 ∷ 76 ∷ 73 ∷ 68 ∷ 88 ∷ drop 4 fields
 
 -- LIDX: day 365 of 2007 and day 1 of 2008, the wind missing. LIDW: days 10 and 11 of 2008 as before, day 11 again but warmer, and day 12.
 abbrev twoBlocks : List ℕ
@@ -85,17 +80,7 @@ twoBlocks =
 pub year-end : DayAt twoBlocks 2 (stationAt twoBlocks 1) (dayAt twoBlocks 37) (record { one = Present (pos 200); two = Absent; three = Absent }) true 14
 unfolding readingOf readFrom recordAt stationAt dayAt wordAt signedOf signedAt isDate yearLength daysBefore goodDate counted earlierMeans
 year-end =
-    record {
-      before = take 2 (entriesOf (readingOf twoBlocks));
-      later = drop 3 (entriesOf (readingOf twoBlocks));
-      block = record { station = stationAt twoBlocks 1; days = dayAt twoBlocks 20 ∷ []; crop = bare };
-      stands = refl;
-      index = refl;
-      stationed = refl;
-      means = refl;
-      dated = refl;
-      behind = refl;
-    }
+    day-there twoBlocks 2 (record { station = stationAt twoBlocks 1; days = dayAt twoBlocks 20 ∷ []; crop = bare }) (dayAt twoBlocks 37) refl refl refl
 
 lacking-too : (judged (stationAt twoBlocks 1) (dayAt twoBlocks 20) (record { one = Absent; two = Absent; three = Absent }) ≡ Refused Missing)
     × (judged (stationAt twoBlocks 1) (dayAt twoBlocks 37) (record { one = Present (pos 200); two = Absent; three = Absent }) ≡ Refused Missing)
