@@ -14,16 +14,15 @@ pub fn ratio(s: i64, q: i64) -> i64
     numbers::quotient(100_000_000_000_000 * s, q / 1_000)
 }
 
-// K. The choice is by the exact numbers and not by the ratio, whose fraction is dropped.
+// K: the 1,017 pair plus a zero-or-one times the differences to the 1,126 pair (02, W3). The zero-or-one is of the exact numbers and not of the
+// ratio, whose fraction is dropped; the differences are added before the one division, because "down" of a sum is not the sum of two "down".
 pub fn cloud_factor(s: i64, q: i64) -> i64
     requires { ⌜ InRange quantities.radiation s × InRange quantities.clearDay q × (sheet.aboveTwiceClear s q ≡ false) ⌝ }
     ensures { λ r. ⌜ (r ≡ sheet.K s q) × InRange quantities.cloudFactor r ⌝ }
 {
     let rho = ratio(s, q);
-    if 1_000_000_000 * s > 7 * q {
-        return numbers::quotient(1_126 * rho, 1_000) - 70_000_000;
-    }
-    numbers::quotient(1_017 * rho, 1_000) - 60_000_000
+    let bright = (1_000_000_000 * s > 7 * q) as i64;
+    numbers::quotient((1_017 + 109 * bright) * rho, 1_000) - (60_000_000 + 10_000_000 * bright)
 }
 
 // B, of the maximum and the minimum.

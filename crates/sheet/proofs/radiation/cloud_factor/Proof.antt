@@ -1,78 +1,107 @@
--- `sheet::radiation::cloud_factor` meets its contract: each step is safe in the ranges required, and the branch's test is that of the definition.
--- Assumes nothing.
-use mathlib.Core.Path.{_≡_, _∙_, ap₂}
+-- `sheet::radiation::cloud_factor` meets its contract: each step is safe in the ranges required, and the 1,017 pair plus a zero-or-one times the
+-- differences (02, W3) is the sheet's K. Assumes nothing.
+use mathlib.Core.Path.{_≡_, refl, _∙_, ap₂}
+use mathlib.Core.Bool.{Bool, true, false, cond}
 use mathlib.Core.List.{List, [], _∷_}
+use native.Mathlib.Omega.{arith}
 use borrow.Author.Needs.{needs}
-use lib.IntN.{ℤ}
+use lib.IntN.{ℤ, pos, _+ℤ_, _-ℤ_, _*ℤ_}
 use lib.Signed.{ltZ}
 use mir.Facts.{toZ-ofZ}
-use Rattle.numbers.specs.Ranges.{InRange}
-use Rattle.numbers.proofs.Reflection.{MachineExpression, arg, lit, _-ᵐ_, _*ᵐ_, _÷↓ᵐ_, Given, none, _and_, result, fits, equal, meaning, quotient-asks, quotient-gives}
+use mir.Val.{boolByte}
+use Rattle.numbers.specs.Whole.{_÷↓_}
+use Rattle.numbers.specs.Ranges.{InRange, from_to_}
+use Rattle.numbers.proofs.Reflection.{MachineExpression, arg, lit, _+ᵐ_, _-ᵐ_, _*ᵐ_, _÷↓ᵐ_, Given, none, _and_, machine, result, fits, equal, meaning, quotient-asks, quotient-gives}
 use Rattle.sheet.specs.Quantities as quantities
 use Rattle.sheet.specs.StepSheet.{ρ, K}
-use Rattle.sheet.proofs.Choices.{taken, left}
 use Rattle.sheet.proofs.Values.{equal-of}
 use Rattle.sheet.proofs.radiation.cloud_factor.Statement.{statement}
 use Rattle.sheet.proofs.radiation.cloud_factor.Tie as tie
 
--- of the ratio, the radiation and the clear-day radiation
-abbrev brightShare : MachineExpression
-brightShare = lit 1_126 *ᵐ arg 0
-
-abbrev bright : MachineExpression
-bright = (brightShare ÷↓ᵐ lit 1_000) -ᵐ lit 70_000_000
-
-abbrev dullShare : MachineExpression
-dullShare = lit 1_017 *ᵐ arg 0
-
-abbrev dull : MachineExpression
-dull = (dullShare ÷↓ᵐ lit 1_000) -ᵐ lit 60_000_000
-
+-- what the choice compares, of the radiation and the clear-day radiation
 abbrev reading : MachineExpression
-reading = lit 1_000_000_000 *ᵐ arg 1
+reading = lit 1_000_000_000 *ᵐ arg 0
 
-abbrev limit : MachineExpression
-limit = lit 7 *ᵐ arg 2
+abbrev border : MachineExpression
+border = lit 7 *ᵐ arg 1
+
+-- K of the ratio and the zero-or-one, with its parts
+abbrev timesMore : MachineExpression
+timesMore = lit 109 *ᵐ arg 1
+
+abbrev times : MachineExpression
+times = lit 1_017 +ᵐ timesMore
+
+abbrev share : MachineExpression
+share = times *ᵐ arg 0
+
+abbrev lessMore : MachineExpression
+lessMore = lit 10_000_000 *ᵐ arg 1
+
+abbrev less : MachineExpression
+less = lit 60_000_000 +ᵐ lessMore
+
+abbrev factor : MachineExpression
+factor = (share ÷↓ᵐ lit 1_000) -ᵐ less
+
+-- a test as a number, and a value that hangs on it
+abbrev zeroOrOne : Bool → ℤ
+zeroOrOne b = pos (boolByte b)
+
+zero-or-one-in : (b : Bool) → InRange (from 0 to 1) (zeroOrOne b)
+zero-or-one-in true = omega arith
+zero-or-one-in false = omega arith
+
+by-test : (f : Bool → ℤ) (b : Bool) → f b ≡ cond b (f true) (f false)
+by-test f true = refl
+by-test f false = refl
+
+-- the sheet's choice: 10⁹s > 7Q
+abbrev isBright : ℤ → ℤ → Bool
+isBright s Q = ltZ (pos 7 *ℤ Q) (pos 1_000_000_000 *ℤ s)
+
+-- the arithmetic gives the sheet's K, for every s and Q: so for all that the contract takes
+pub as-arithmetic : (s Q : ℤ) →
+    let b = zeroOrOne (isBright s Q) in
+    ((pos 1_017 +ℤ pos 109 *ℤ b) *ℤ ρ s Q ÷↓ pos 1_000) -ℤ (pos 60_000_000 +ℤ pos 10_000_000 *ℤ b) ≡ K s Q
+unfolding K
+as-arithmetic s Q = by-test (λ (b : Bool). meaning factor (ρ s Q ∷ zeroOrOne b ∷ [])) (isBright s Q)
 
 module _ (c : tie.After-ratio) where
-  rest : Given (quantities.radiation ∷ quantities.clearDay ∷ []) (c .before .args .s ∷ c .before .args .q ∷ [])
-  rest = c .before .pre .0 and c .before .pre .1 and none
+  abbrev compared : List ℤ
+  compared = c .before .args .s ∷ c .before .args .q ∷ []
+
+  choice-given : Given (quantities.radiation ∷ quantities.clearDay ∷ []) compared
+  choice-given = c .before .pre .0 and c .before .pre .1 and none
+
+  abbrev bright : Bool
+  bright = ltZ (machine border compared) (machine reading compared)
+
+  bright-given : Given ((from 0 to 1) ∷ []) (zeroOrOne bright ∷ [])
+  bright-given = zero-or-one-in bright and none
 
   ratio-is : (c .ratio .result ≡ ρ (c .before .args .s) (c .before .args .q)) × InRange quantities.ratio (c .ratio .result)
   ratio-is = (c .ratio .ensures .0 ∙ ap₂ ρ (toZ-ofZ (c .before .fits .s)) (toZ-ofZ (c .before .fits .q)), c .ratio .ensures .1)
 
   abbrev values : List ℤ
-  values = c .ratio .result ∷ c .before .args .s ∷ c .before .args .q ∷ []
+  values = c .ratio .result ∷ zeroOrOne bright ∷ []
 
-  given : Given (quantities.ratio ∷ quantities.radiation ∷ quantities.clearDay ∷ []) values
-  given = c .ratio .ensures .1 and rest
+  given : Given (quantities.ratio ∷ (from 0 to 1) ∷ []) values
+  given = c .ratio .ensures .1 and bright-given
 
-  abbrev zs : List ℤ
-  zs = ρ (c .before .args .s) (c .before .args .q) ∷ c .before .args .s ∷ c .before .args .q ∷ []
-
-bright-gives : (c : tie.After-quotient) → c .quotient .result ≡ result (brightShare ÷↓ᵐ lit 1_000) (values (c .before .before))
-bright-gives c = quotient-gives (given (c .before .before)) brightShare (lit 1_000) (c .quotient .ensures) tt
-
-dull-gives : (c : tie.After-quotient2) → c .quotient2 .result ≡ result (dullShare ÷↓ᵐ lit 1_000) (values (c .before .before))
-dull-gives c = quotient-gives (given (c .before .before)) dullShare (lit 1_000) (c .quotient2 .ensures) tt
+quotient-is : (c : tie.After-quotient) → c .quotient .result ≡ result (share ÷↓ᵐ lit 1_000) (values (c .before))
+quotient-is c = quotient-gives (given (c .before)) share (lit 1_000) (c .quotient .ensures) tt
 
 returns : tie.Need-returns
-unfolding K
 returns c =
-    let b = c .before .before in
-    let h = equal-of (rest b) (ratio-is b) bright quantities.cloudFactor tt in
-    rw (bright-gives c) (
-      h .0 ∙ taken ltZ (equal (given b) limit tt) (equal (given b) reading tt) (meaning bright (zs b)) (meaning dull (zs b)) (c .before .if1 .taken),
-      h .1,
-    )
-
-returns-2 : tie.Need-returns-2
-unfolding K
-returns-2 c =
-    let b = c .before .before in
-    let h = equal-of (rest b) (ratio-is b) dull quantities.cloudFactor tt in
-    rw (dull-gives c) (
-      h .0 ∙ left ltZ (equal (given b) limit tt) (equal (given b) reading tt) (meaning bright (zs b)) (meaning dull (zs b)) (c .before .if1 .left),
+    let b = c .before in
+    let s = b .before .args .s in
+    let q = b .before .args .q in
+    let h = equal-of (bright-given b) (ratio-is b) factor quantities.cloudFactor tt in
+    rw (quotient-is c) (
+      h .0
+          ∙ ap₂ (λ (x y : ℤ). meaning factor (ρ s q ∷ zeroOrOne (ltZ x y) ∷ [])) (equal (choice-given b) border tt) (equal (choice-given b) reading tt)
+          ∙ as-arithmetic s q,
       h .1,
     )
 
@@ -81,13 +110,14 @@ cloud-factor-spec =
     tie.close
     (tie.spec
     (λ c κs. search needs)
-    (λ c. fits (given c) reading tt)
-    (λ c. fits (given c) limit tt)
-    (λ c. fits (given (c .before)) brightShare tt)
-    (λ c κs. quotient-asks (given (c .before)) brightShare (lit 1_000) tt)
-    (λ c. rw (bright-gives c) (fits (given (c .before .before)) bright tt))
-    returns
-    (λ c. fits (given (c .before)) dullShare tt)
-    (λ c κs. quotient-asks (given (c .before)) dullShare (lit 1_000) tt)
-    (λ c. rw (dull-gives c) (fits (given (c .before .before)) dull tt))
-    returns-2)
+    (λ c. fits (choice-given c) reading tt)
+    (λ c. fits (choice-given c) border tt)
+    (λ c. tt)
+    (λ c. fits (given c) timesMore tt)
+    (λ c. fits (given c) times tt)
+    (λ c. fits (given c) share tt)
+    (λ c κs. quotient-asks (given c) share (lit 1_000) tt)
+    (λ c. fits (given (c .before)) lessMore tt)
+    (λ c. fits (given (c .before)) less tt)
+    (λ c. rw (quotient-is c) (fits (given (c .before)) factor tt))
+    returns)
