@@ -69,6 +69,10 @@ pub as-read-four : (f : ℤ → ℤ → ℤ → ℤ → Bool) {a b c d : ℤ} �
     f (read16 a) (read16 b) (read16 c) (read16 d) ≡ f a b c d
 as-read-four f p q r s = λ i. f (toZ-ofZ p i) (toZ-ofZ q i) (toZ-ofZ r i) (toZ-ofZ s i)
 
+pub as-read-five : (f : ℤ → ℤ → ℤ → ℤ → ℤ → Bool) {a b c d e : ℤ} → SFits w16 a → SFits w16 b → SFits w16 c → SFits w16 d → SFits w16 e →
+    f (read16 a) (read16 b) (read16 c) (read16 d) (read16 e) ≡ f a b c d e
+as-read-five f p q r s t = λ i. f (toZ-ofZ p i) (toZ-ofZ q i) (toZ-ofZ r i) (toZ-ofZ s i) (toZ-ofZ t i)
+
 pub as-read-six : (f : ℤ → ℤ → ℤ → ℤ → ℤ → ℤ → Bool) {a b c d e g : ℤ} → SFits w16 a → SFits w16 b → SFits w16 c → SFits w16 d → SFits w16 e → SFits w16 g →
     f (read16 a) (read16 b) (read16 c) (read16 d) (read16 e) (read16 g) ≡ f a b c d e g
 as-read-six f p q r s t u = λ i. f (toZ-ofZ p i) (toZ-ofZ q i) (toZ-ofZ r i) (toZ-ofZ s i) (toZ-ofZ t i) (toZ-ofZ u i)

@@ -50,9 +50,13 @@ badStation st = anyOf (stationFaults (st .code .first) (st .code .second) (st .c
 abbrev pub isMissing : ℤ → Bool
 isMissing f = leZ f (negsuc 32767)
 
+-- the readings other than the dew point
+abbrev pub otherMarks : ℤ → ℤ → ℤ → ℤ → ℤ → List Bool
+otherMarks maximum minimum mean radiation wind =
+    isMissing maximum ∷ isMissing minimum ∷ isMissing mean ∷ isMissing radiation ∷ isMissing wind ∷ []
+
 abbrev pub missingMarks : ℤ → ℤ → ℤ → ℤ → ℤ → ℤ → List Bool
-missingMarks maximum minimum mean dewpoint radiation wind =
-    isMissing maximum ∷ isMissing minimum ∷ isMissing mean ∷ isMissing dewpoint ∷ isMissing radiation ∷ isMissing wind ∷ []
+missingMarks maximum minimum mean dewpoint radiation wind = isMissing dewpoint ∷ otherMarks maximum minimum mean radiation wind
 
 -- 8: a reading out of range, or an earlier mean that is present but out of range
 abbrev pub readingFaults : ℤ → ℤ → ℤ → ℤ → ℤ → ℤ → List Bool

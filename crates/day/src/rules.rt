@@ -1,6 +1,6 @@
 // The rules by which a station or a day is refused before the sheet is worked. Each function says whether its refusal holds.
 ghost use mathlib.Core.Path.{_≡_};
-ghost use Rattle.day.specs.Rules.{notCapital, stationFaults, missingMarks, readingFaults, meanFault, orderFaults};
+ghost use Rattle.day.specs.Rules.{notCapital, stationFaults, otherMarks, missingMarks, readingFaults, meanFault, orderFaults};
 ghost use Rattle.day.specs.Rules.{anyOf};
 use crate::Mean;
 use crate::readings::Radiation;
@@ -54,6 +54,25 @@ pub fn station_field_out_of_range(
     !(WindLimit { tenths: limit }).in_range()
 }
 
+// A reading other than the dew point is missing.
+pub fn other_missing(maximum: i16, minimum: i16, mean: i16, radiation: i16, wind: i16) -> bool
+    ensures { λ r. ⌜ r ≡ anyOf (otherMarks maximum minimum mean radiation wind) ⌝ }
+{
+    if maximum <= MISSING {
+        return true;
+    }
+    if minimum <= MISSING {
+        return true;
+    }
+    if mean <= MISSING {
+        return true;
+    }
+    if radiation <= MISSING {
+        return true;
+    }
+    wind <= MISSING
+}
+
 // Refusal 7: one of the six readings is missing.
 pub fn some_missing(
     maximum: i16,
@@ -65,22 +84,10 @@ pub fn some_missing(
 ) -> bool
     ensures { λ r. ⌜ r ≡ anyOf (missingMarks maximum minimum mean dewpoint radiation wind) ⌝ }
 {
-    if maximum <= MISSING {
-        return true;
-    }
-    if minimum <= MISSING {
-        return true;
-    }
-    if mean <= MISSING {
-        return true;
-    }
     if dewpoint <= MISSING {
         return true;
     }
-    if radiation <= MISSING {
-        return true;
-    }
-    wind <= MISSING
+    other_missing(maximum, minimum, mean, radiation, wind)
 }
 
 // Refusal 8: one of the six readings is out of its range.

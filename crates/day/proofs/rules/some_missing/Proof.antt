@@ -1,29 +1,21 @@
 -- `day::rules::some_missing` meets its contract. Assumes nothing.
-use mathlib.Core.Path.{ap}
+use mathlib.Core.Path.{_∙_}
 use lib.IntN.{negsuc}
-use lib.Signed.{leZ}
-use mir.Facts.{toZ-ofZ}
-use Rattle.day.proofs.Tests.{le-read, first-here, first-there, any-last}
+use borrow.Author.Needs.{needs}
+use Rattle.day.specs.Rules.{anyOf, otherMarks}
+use Rattle.day.proofs.Tests.{le-read, first-here, first-there, as-read-five}
 use Rattle.day.proofs.rules.some_missing.Statement.{statement}
 use Rattle.day.proofs.rules.some_missing.Tie as tie
 
 returns : tie.Need-returns
-returns c = first-here _ _ (le-read (negsuc 32767) (c .before .fits .maximum) (c .if1 .taken))
+returns c = first-here _ _ (le-read (negsuc 32767) (c .before .fits .dewpoint) (c .if1 .taken))
 
 returns-2 : tie.Need-returns-2
-returns-2 c = first-there _ (le-read (negsuc 32767) (c .before .before .fits .maximum) (c .before .if1 .left)) (first-here _ _ (le-read (negsuc 32767) (c .before .before .fits .minimum) (c .if2 .taken)))
-
-returns-3 : tie.Need-returns-3
-returns-3 c = first-there _ (le-read (negsuc 32767) (c .before .before .before .fits .maximum) (c .before .before .if1 .left)) (first-there _ (le-read (negsuc 32767) (c .before .before .before .fits .minimum) (c .before .if2 .left)) (first-here _ _ (le-read (negsuc 32767) (c .before .before .before .fits .mean) (c .if3 .taken))))
-
-returns-4 : tie.Need-returns-4
-returns-4 c = first-there _ (le-read (negsuc 32767) (c .before .before .before .before .fits .maximum) (c .before .before .before .if1 .left)) (first-there _ (le-read (negsuc 32767) (c .before .before .before .before .fits .minimum) (c .before .before .if2 .left)) (first-there _ (le-read (negsuc 32767) (c .before .before .before .before .fits .mean) (c .before .if3 .left)) (first-here _ _ (le-read (negsuc 32767) (c .before .before .before .before .fits .dewpoint) (c .if4 .taken)))))
-
-returns-5 : tie.Need-returns-5
-returns-5 c = first-there _ (le-read (negsuc 32767) (c .before .before .before .before .before .fits .maximum) (c .before .before .before .before .if1 .left)) (first-there _ (le-read (negsuc 32767) (c .before .before .before .before .before .fits .minimum) (c .before .before .before .if2 .left)) (first-there _ (le-read (negsuc 32767) (c .before .before .before .before .before .fits .mean) (c .before .before .if3 .left)) (first-there _ (le-read (negsuc 32767) (c .before .before .before .before .before .fits .dewpoint) (c .before .if4 .left)) (first-here _ _ (le-read (negsuc 32767) (c .before .before .before .before .before .fits .radiation) (c .if5 .taken))))))
-
-returns-6 : tie.Need-returns-6
-returns-6 c = first-there _ (le-read (negsuc 32767) (c .before .before .before .before .before .fits .maximum) (c .before .before .before .before .if1 .left)) (first-there _ (le-read (negsuc 32767) (c .before .before .before .before .before .fits .minimum) (c .before .before .before .if2 .left)) (first-there _ (le-read (negsuc 32767) (c .before .before .before .before .before .fits .mean) (c .before .before .if3 .left)) (first-there _ (le-read (negsuc 32767) (c .before .before .before .before .before .fits .dewpoint) (c .before .if4 .left)) (first-there _ (le-read (negsuc 32767) (c .before .before .before .before .before .fits .radiation) (c .if5 .left)) (any-last _ (ap (λ z. leZ z (negsuc 32767)) (toZ-ofZ (c .before .before .before .before .before .fits .wind))))))))
+returns-2 c =
+    let s = c .before .before in
+    first-there _ (le-read (negsuc 32767) (s .fits .dewpoint) (c .before .if1 .left))
+    (c .other-missing .ensures
+    ∙ as-read-five (λ a b c d e. anyOf (otherMarks a b c d e)) (s .fits .maximum) (s .fits .minimum) (s .fits .mean) (s .fits .radiation) (s .fits .wind))
 
 pub some-missing-spec : {M : Type 1} → statement M
-some-missing-spec = tie.close (tie.spec returns returns-2 returns-3 returns-4 returns-5 returns-6)
+some-missing-spec = tie.close (tie.spec returns (λ c κs. search needs) returns-2)
