@@ -1,5 +1,5 @@
 -- What the bytes of an answer say where they stand: its kind, its code or its date, and its value. So the answer is known from them (`is-station`,
--- `is-crop`, `is-figure`, `is-refusal`), as a refusal is from its number (`one-number`). Assumes nothing.
+-- `is-crop`, `is-figure`, `is-estimate`, `is-refusal`), as a refusal is from its number (`one-number`). Assumes nothing.
 use mathlib.Core.Path.{_≡_, refl, sym, ap, _∙_}
 use mathlib.Core.Bool.{cond}
 use mathlib.Core.Logic.{_≢_}
@@ -14,7 +14,7 @@ use Rattle.day.specs.declared.Code.{Code}
 use Rattle.day.specs.declared.Refusal.{Refusal}
 use Rattle.day.specs.declared.Refusal.the-variants.{StationField, BadDate, Missing, OutOfRange, OutOfOrder, AboveClear, SumBelowOne}
 use Rattle.day.specs.declared.Verdict.{Verdict}
-use Rattle.day.specs.declared.Verdict.the-variants.{Figure, Refused}
+use Rattle.day.specs.declared.Verdict.the-variants.{Figure, Refused, Estimated}
 use Rattle.records.specs.Bytes.{wordAt}
 use Rattle.records.specs.Record.{codeAt}
 use Rattle.answers.specs.Answers.{kindOf, valueOf, answerBytes}
@@ -139,6 +139,7 @@ module _ {s : List ℕ} {at : ℕ} where
   is-station five is (answer.Station c) h = ap answer.Station (is ∙ station-tells h .code)
   is-station five is (answer.Day year d (Figure n)) h = absurd (omega (arith, five, day-tells h .kind))
   is-station five is (answer.Day year d (Refused why)) h = absurd (omega (arith, five, day-tells h .kind))
+  is-station five is (answer.Day year d (Estimated n)) h = absurd (omega (arith, five, day-tells h .kind))
   is-station five is (answer.Crop c n) h = absurd (omega (arith, five, crop-tells h .kind))
 
   -- kind 7
@@ -147,6 +148,7 @@ module _ {s : List ℕ} {at : ℕ} where
   is-crop seven is-code is-value (answer.Station c) h = absurd (omega (arith, seven, station-tells h .kind))
   is-crop seven is-code is-value (answer.Day year d (Figure n)) h = absurd (omega (arith, seven, day-tells h .kind))
   is-crop seven is-code is-value (answer.Day year d (Refused why)) h = absurd (omega (arith, seven, day-tells h .kind))
+  is-crop seven is-code is-value (answer.Day year d (Estimated n)) h = absurd (omega (arith, seven, day-tells h .kind))
   is-crop seven is-code is-value (answer.Crop c n) h =
       let of-code = is-code ∙ crop-tells h .code in
       let of-value = is-value ∙ crop-tells h .value in
@@ -165,12 +167,22 @@ module _ {s : List ℕ} {at : ℕ} where
     is-figure three (answer.Station c) h = absurd (other (station-tells h .kind))
     is-figure three (answer.Day y e (Figure m)) h = same (day-tells h) (ap Figure (is-value ∙ day-tells h .value))
     is-figure three (answer.Day y e (Refused why)) h = absurd (omega (arith, three, day-tells h .kind))
+    is-figure three (answer.Day y e (Estimated m)) h = absurd (omega (arith, three, day-tells h .kind))
     is-figure three (answer.Crop c m) h = absurd (no-crop (crop-tells h .kind))
 
+    -- kind 9
+    pub is-estimate : getD s at 0 ≡ 9 → (a : Answer) → StandsAt s at a → answer.Day year d (Estimated n) ≡ a
+    is-estimate nine (answer.Station c) h = absurd (other (station-tells h .kind))
+    is-estimate nine (answer.Day y e (Figure m)) h = absurd (omega (arith, nine, day-tells h .kind))
+    is-estimate nine (answer.Day y e (Refused why)) h = absurd (omega (arith, nine, day-tells h .kind))
+    is-estimate nine (answer.Day y e (Estimated m)) h = same (day-tells h) (ap Estimated (is-value ∙ day-tells h .value))
+    is-estimate nine (answer.Crop c m) h = absurd (no-crop (crop-tells h .kind))
+
     -- kind 4
-    pub is-refusal : getD s at 0 ≢ 3 → {r : Refusal} → ((why : Refusal) → n ≡ numberOf why → r ≡ why)
+    pub is-refusal : getD s at 0 ≢ 3 → getD s at 0 ≢ 9 → {r : Refusal} → ((why : Refusal) → n ≡ numberOf why → r ≡ why)
         → (a : Answer) → StandsAt s at a → answer.Day year d (Refused r) ≡ a
-    is-refusal no-figure is (answer.Station c) h = absurd (other (station-tells h .kind))
-    is-refusal no-figure is (answer.Day y e (Figure m)) h = absurd (no-figure (day-tells h .kind))
-    is-refusal no-figure is (answer.Day y e (Refused why)) h = same (day-tells h) (ap Refused (is why (is-value ∙ day-tells h .value)))
-    is-refusal no-figure is (answer.Crop c m) h = absurd (no-crop (crop-tells h .kind))
+    is-refusal no-figure no-estimate is (answer.Station c) h = absurd (other (station-tells h .kind))
+    is-refusal no-figure no-estimate is (answer.Day y e (Figure m)) h = absurd (no-figure (day-tells h .kind))
+    is-refusal no-figure no-estimate is (answer.Day y e (Refused why)) h = same (day-tells h) (ap Refused (is why (is-value ∙ day-tells h .value)))
+    is-refusal no-figure no-estimate is (answer.Day y e (Estimated m)) h = absurd (no-estimate (day-tells h .kind))
+    is-refusal no-figure no-estimate is (answer.Crop c m) h = absurd (no-crop (crop-tells h .kind))

@@ -68,6 +68,9 @@ pub fn answer_at(answers: &[u8], at: usize) -> Answer
     if kind == 3 {
         return Answer::Day(year, d, Verdict::Figure(value));
     }
+    if kind == 9 {
+        return Answer::Day(year, d, Verdict::Estimated(value));
+    }
     Answer::Day(year, d, Verdict::Refused(refusal_of(value)))
 }
 

@@ -17,7 +17,7 @@ use Rattle.equation.specs.Nearness as nearness
 use Rattle.equation.specs.Nearness.{tenths, Constants, ConstantsInRange, AllTemperatures, none, more, Accepted, bound, FigureNear}
 use Rattle.equation.proofs.Nearness.{figure-near}
 use Rattle.day.specs.Rules.{meanFault}
-use Rattle.day.specs.Judgement.{readingsOf, entriesOf, clearOf, withMean, meansOf, earlierOf, figureOf, holds, judged, Answered}
+use Rattle.day.specs.Judgement.{readingsOf, entriesOf, clearOf, withMean, meansOf, earlierOf, figureOf, holds, Answered, asJudged, withMark, judged}
 use Rattle.day.specs.Bound.{ifPresent, meansPresent, inputsOf, Within, WithinBound, provedBound, SignedConstants, FigureOwed, JudgesWithinBound}
 use Rattle.day.specs.declared.Station.{Station}
 use Rattle.day.specs.declared.Day.{Day}
@@ -26,7 +26,6 @@ use Rattle.day.specs.declared.Mean.the-variants.{Present, Absent}
 use Rattle.day.specs.declared.Earlier.{Earlier}
 use Rattle.day.specs.declared.Refusal.{Refusal}
 use Rattle.day.specs.declared.Refusal.the-variants.{StationField, BadDate, OutOfRange, OutOfOrder, AboveClear}
-use Rattle.day.specs.declared.Verdict.the-variants.{Figure}
 use Rattle.day.proofs.Standings.{answered-figure}
 use Rattle.day.proofs.Tests.{passed}
 use Rattle.day.proofs.Passed as passed-tests
@@ -139,12 +138,12 @@ module _ (st : Station) (day : Day) (earlier : Earlier) (constants : SignedConst
       ≤ℚ-trans (within-proved α a1 aw bw P x hα ha1 haw hbw hP hx) (≤ℚ-ratio bound (6 over 100000) tt)
 
 -- the sharper bound, of a judge's own figures
-pub judged-within-proved : (st : Station) (day : Day) (earlier : Earlier) → SignedConstants st → Answered st day earlier →
-    (n : ℕ) × (judged st day earlier ≡ Figure n) × Within provedBound st day earlier n
+pub judged-within-proved : (st : Station) (day : Day) (earlier : Earlier) → SignedConstants st → Answered st (asJudged day) earlier →
+    (n : ℕ) × (judged st day earlier ≡ withMark day n) × Within provedBound st (asJudged day) earlier n
 judged-within-proved st day earlier constants answered =
-    (figureOf st day earlier, answered-figure st day earlier answered, within-proved st day earlier constants answered)
+    (figureOf st (asJudged day) earlier, answered-figure st day earlier answered, within-proved st (asJudged day) earlier constants answered)
 
 pub judged-within-bound : JudgesWithinBound judged
 unfolding JudgesWithinBound FigureOwed
 judged-within-bound st day earlier constants answered =
-    (figureOf st day earlier, answered-figure st day earlier answered, within-bound st day earlier constants answered)
+    (figureOf st (asJudged day) earlier, answered-figure st day earlier answered, within-bound st (asJudged day) earlier constants answered)

@@ -1,6 +1,6 @@
 -- Values worked by hand. `marked` is one table of every value that document 01 marks to be proved. `days` are three days worked through: the one of
 -- the document's log that gets a figure, and a summer day at the same station after two and after three earlier means. `limits` are a windy day at
--- three wind limits. All are answered, so what `judged-within-bound` asks can be met. Assumes nothing.
+-- three wind limits, `estimates` the summer day without its dew point. All are answered, so what `judged-within-bound` asks can be met. Assumes nothing.
 use mathlib.Core.Path.{_≡_, refl, sym, _∙_, ap, ap₂, subst}
 use mathlib.Core.Bool.{Bool, false, cond}
 use mathlib.Core.List.{List, [], _∷_, map}
@@ -20,7 +20,7 @@ use Rattle.sheet.specs.Parts.{weighed}
 use Rattle.sheet.specs.StepSheet as sheet
 use Rattle.day.specs.Calendar.{yearLength, isDate}
 use Rattle.day.specs.Rules.{anyOf, numberOf}
-use Rattle.day.specs.Judgement.{readingsOf, entriesOf, clearOf, meansOf, earlierOf, figureOf, holds, judged, Answered}
+use Rattle.day.specs.Judgement.{readingsOf, entriesOf, clearOf, meansOf, earlierOf, figureOf, holds, Answered, lacksDewPoint, asJudged, withMark, judged}
 use Rattle.day.specs.Bound.{WithinBound, SignedConstants}
 use Rattle.day.specs.declared.Station.{Station}
 use Rattle.day.specs.declared.Day.{Day}
@@ -28,7 +28,8 @@ use Rattle.day.specs.declared.Mean.the-variants.{Present, Absent}
 use Rattle.day.specs.declared.Earlier.{Earlier}
 use Rattle.day.specs.declared.Refusal.{Refusal}
 use Rattle.day.specs.declared.Refusal.the-variants.{StationField, BadDate, Missing, OutOfRange, OutOfOrder, AboveClear, SumBelowOne}
-use Rattle.day.specs.declared.Verdict.the-variants.{Figure}
+use Rattle.day.specs.declared.Verdict.{Verdict}
+use Rattle.day.specs.declared.Verdict.the-variants.{Figure, Estimated}
 use Rattle.day.proofs.Tests.{AllFalse, all-false}
 use Rattle.day.proofs.DayBound.{within-bound}
 use Rattle.day.proofs.Edges.{lidwWith}
@@ -106,11 +107,23 @@ root-at : (f : ℤ) (n root : ℕ) → pos 10_000_000 *ℤ sheet.e f ≡ pos n �
 unfolding sheet.r
 root-at f n root is h = ap wholeRoot is ∙ sym (root-is n root h)
 
--- what is shown of a day: it is answered, with the figure n, and n is within the bound
-pub record Worked (st : Station) (day : Day) (earlier : Earlier) (n : ℕ) : Type 0 where
-  pub answered : Answered st day earlier
-  pub verdict : judged st day earlier ≡ Figure n
-  pub bound : WithinBound st day earlier n
+-- what is shown of a day: it is answered, with the figure n, marked or not, and n is within the bound
+pub record Worked (st : Station) (day : Day) (earlier : Earlier) (verdict : ℕ → Verdict) (n : ℕ) : Type 0 where
+  pub answered : Answered st (asJudged day) earlier
+  pub told : judged st day earlier ≡ verdict n
+  pub bound : WithinBound st (asJudged day) earlier n
+
+-- the tests of the refusals in their order
+abbrev tests : Station → Day → Earlier → Entries → List Bool
+tests st day earlier t =
+    holds StationField st day earlier
+    ∷ holds BadDate st day earlier
+    ∷ holds Missing st day earlier
+    ∷ holds OutOfRange st day earlier
+    ∷ holds OutOfOrder st day earlier
+    ∷ holds AboveClear st day earlier
+    ∷ sheet.sumBelowOne (day .mean) (t .p)
+    ∷ []
 
 module _ (st : Station) (day : Day) (earlier : Earlier) (t : Entries) (entries-are : entriesOf st day ≡ t) where
   figure-with : (root : ℤ) → sheet.r (sheet.e (day .dewpoint)) ≡ root →
@@ -119,19 +132,7 @@ module _ (st : Station) (day : Day) (earlier : Earlier) (t : Entries) (entries-a
   figure-with root is =
       ap₂ (λ (t : Entries) (root : ℤ). natAbs (figureWith (readingsOf day) t (earlierOf earlier) (clearOf st day) (pos (st .limit)) root)) entries-are is
 
-  -- the tests of the refusals in their order
-  abbrev tests : List Bool
-  tests =
-      holds StationField st day earlier
-      ∷ holds BadDate st day earlier
-      ∷ holds Missing st day earlier
-      ∷ holds OutOfRange st day earlier
-      ∷ holds OutOfOrder st day earlier
-      ∷ holds AboveClear st day earlier
-      ∷ sheet.sumBelowOne (day .mean) (t .p)
-      ∷ []
-
-  by-refusal : AllFalse tests → (r : Refusal) → holds r st day earlier ≡ false
+  by-refusal : AllFalse (tests st day earlier t) → (r : Refusal) → holds r st day earlier ≡ false
   unfolding holds entriesOf
   by-refusal h StationField = h .0
   by-refusal h BadDate = h .1 .0
@@ -141,21 +142,23 @@ module _ (st : Station) (day : Day) (earlier : Earlier) (t : Entries) (entries-a
   by-refusal h AboveClear = h .1 .1 .1 .1 .1 .0
   by-refusal h SumBelowOne = ap (λ (t : Entries). sheet.sumBelowOne (day .mean) (t .p)) entries-are ∙ h .1 .1 .1 .1 .1 .1 .0
 
-  answered-by : anyOf tests ≡ false → Answered st day earlier
+  answered-by : anyOf (tests st day earlier t) ≡ false → Answered st day earlier
   unfolding Answered
-  answered-by e = by-refusal (all-false tests e)
+  answered-by e = by-refusal (all-false (tests st day earlier t) e)
 
-  -- both by computation: none of the refusals holds, and the figure is n
-  worked : SignedConstants st → {root : ℤ} → sheet.r (sheet.e (day .dewpoint)) ≡ root → anyOf tests ≡ false → {n : ℕ} →
-      natAbs (figureWith (readingsOf day) t (earlierOf earlier) (clearOf st day) (pos (st .limit)) root) ≡ n → Worked st day earlier n
-  worked constants {root} is none {n} same =
-      let answered = answered-by none in
-      let figure : figureOf st day earlier ≡ n = figure-with root is ∙ same in
-      record {
-        answered = answered;
-        verdict = answered-figure st day earlier answered ∙ ap Figure figure;
-        bound = subst (WithinBound st day earlier) figure (within-bound st day earlier constants answered);
-      }
+-- by computation: none of the refusals holds, and the figure is n, with the mark that the day has
+worked : (st : Station) (day : Day) (earlier : Earlier) (t : Entries) → entriesOf st (asJudged day) ≡ t → SignedConstants st → {root : ℤ} →
+    sheet.r (sheet.e (asJudged day .dewpoint)) ≡ root → anyOf (tests st (asJudged day) earlier t) ≡ false → {n : ℕ} →
+    natAbs (figureWith (readingsOf (asJudged day)) t (earlierOf earlier) (clearOf st (asJudged day)) (pos (st .limit)) root) ≡ n → {verdict : ℕ → Verdict} →
+    withMark day n ≡ verdict n → Worked st day earlier verdict n
+worked st day earlier t entries-are constants {root} is none {n} same mark =
+    let answered = answered-by st (asJudged day) earlier t entries-are none in
+    let figure : figureOf st (asJudged day) earlier ≡ n = figure-with st (asJudged day) earlier t entries-are root is ∙ same in
+    record {
+      answered = answered;
+      told = answered-figure st day earlier answered ∙ ap (withMark day) figure ∙ mark;
+      bound = subst (WithinBound st (asJudged day) earlier) figure (within-bound st (asJudged day) earlier constants answered);
+    }
 
 -- the station of document 01's log, LIDW, with any wind limit; and with that of kind 1
 abbrev limited : ℕ → Station
@@ -200,6 +203,10 @@ threeMeans = record { one = Present (pos 850); two = Present (pos 610); three = 
 abbrev windyDay : Day
 windyDay = record { year = 2008; d = 180; maximum = pos 900; minimum = pos 550; mean = pos 720; dewpoint = pos 500; radiation = pos 7_000; wind = pos 2_000 }
 
+-- the summer day without its dew point
+abbrev noDewPoint : Day
+noDewPoint = record { year = 2008; d = 180; maximum = pos 900; minimum = pos 550; mean = pos 720; dewpoint = negsuc 32_767; radiation = pos 7_000; wind = pos 1_000 }
+
 -- the entries at the two days
 abbrev winterEntries : ℕ → Entries
 winterEntries p = record { albedo = pos 346_410_155; a1 = pos 260_157_000; aw = pos 400_630_537; bw = pos 7_000_957; p = pos p }
@@ -207,38 +214,47 @@ winterEntries p = record { albedo = pos 346_410_155; a1 = pos 260_157_000; aw = 
 abbrev summerEntries : ℕ → Entries
 summerEntries p = record { albedo = pos 230_572_314; a1 = pos 359_786_784; aw = pos 1_779_755_409; bw = pos 9_151_442; p = pos p }
 
-entries : (entriesOf station winterDay ≡ winterEntries 954_675) × (entriesOf station summerDay ≡ summerEntries 954_675)
-unfolding entriesOf curveAt rounded arcSum arcSums sinSum bellSums expSum sumTo more
+entries : (entriesOf station (asJudged winterDay) ≡ winterEntries 954_675) × (entriesOf station (asJudged summerDay) ≡ summerEntries 954_675)
+unfolding asJudged entriesOf curveAt rounded arcSum arcSums sinSum bellSums expSum sumTo more
 entries = (ap winterEntries (sym pressure), ap summerEntries (sym pressure))
 
-roots : (sheet.r (sheet.e (pos 320)) ≡ pos 78_213_060) × (sheet.r (sheet.e (pos 500)) ≡ pos 110_868_765)
+roots : (sheet.r (sheet.e (pos 320)) ≡ pos 78_213_060) × (sheet.r (sheet.e (pos 500)) ≡ pos 110_868_765) × (sheet.r (sheet.e (pos 550)) ≡ pos 121_538_811)
 unfolding sheet.U sheet.V2 sheet.V4 sheet.V8 sheet.e
 roots = (
   root-at (pos 320) 6_117_282_850_000_000 78_213_060 refl (record { low = lit≤ tt; high = lit< tt }),
   root-at (pos 500) 12_291_883_230_000_000 110_868_765 refl (record { low = lit≤ tt; high = lit< tt }),
+  root-at (pos 550) 14_771_682_580_000_000 121_538_811 refl (record { low = lit≤ tt; high = lit< tt }),
 )
 
 -- the two days, and the second after three means
 abbrev Days : Type 0
-Days = Worked station winterDay winterMeans 0 × Worked station summerDay summerMeans 3_518 × Worked station summerDay threeMeans 3_356
+Days = Worked station winterDay winterMeans Figure 0 × Worked station summerDay summerMeans Figure 3_518 × Worked station summerDay threeMeans Figure 3_356
 
 -- the windy day with the limits 1,500, 1,200 and 1,000; at the last the figure is that of the summer day, whose wind run is 1,000
 abbrev Limits : Type 0
-Limits = Worked station windyDay summerMeans 3_925 × Worked (limited 1_200) windyDay summerMeans 3_680 × Worked (limited 1_000) windyDay summerMeans 3_518
+Limits =
+    Worked station windyDay summerMeans Figure 3_925
+    × Worked (limited 1_200) windyDay summerMeans Figure 3_680
+    × Worked (limited 1_000) windyDay summerMeans Figure 3_518
 
-all-worked : Days × Limits
-unfolding entriesOf holds isDate yearLength readingsOf clearOf meansOf earlierOf sheet.sumOf sheet.clearSum sheet.Q sheet.aboveTwiceClear sheet.sumBelowOne sheet.U sheet.V2 sheet.V4 sheet.V6 sheet.V7 sheet.V8 sheet.e sheet.D sheet.M sheet.g sheet.w1 sheet.w2 sheet.ρ sheet.K sheet.N sheet.fourthPower sheet.B sheet.emittance sheet.Rb sheet.S sheet.Rn sheet.soilHeat sheet.H sheet.countedWind sheet.Wf sheet.«V» sheet.T sheet.drying sheet.A sheet.Figure
+-- the summer day without its dew point: with the minimum, 55 °F, in its place
+abbrev Estimates : Type 0
+Estimates = Worked station noDewPoint summerMeans Estimated 3_347
+
+all-worked : Days × Limits × Estimates
+unfolding lacksDewPoint asJudged withMark entriesOf holds isDate yearLength readingsOf clearOf meansOf earlierOf sheet.sumOf sheet.clearSum sheet.Q sheet.aboveTwiceClear sheet.sumBelowOne sheet.U sheet.V2 sheet.V4 sheet.V6 sheet.V7 sheet.V8 sheet.e sheet.D sheet.M sheet.g sheet.w1 sheet.w2 sheet.ρ sheet.K sheet.N sheet.fourthPower sheet.B sheet.emittance sheet.Rb sheet.S sheet.Rn sheet.soilHeat sheet.H sheet.countedWind sheet.Wf sheet.«V» sheet.T sheet.drying sheet.A sheet.Figure
 all-worked = (
   (
-    worked station winterDay winterMeans (winterEntries 954_675) (entries .0) constants (roots .0) refl refl,
-    worked station summerDay summerMeans (summerEntries 954_675) (entries .1) constants (roots .1) refl refl,
-    worked station summerDay threeMeans (summerEntries 954_675) (entries .1) constants (roots .1) refl refl,
+    worked station winterDay winterMeans (winterEntries 954_675) (entries .0) constants (roots .0) refl refl refl,
+    worked station summerDay summerMeans (summerEntries 954_675) (entries .1) constants (roots .1) refl refl refl,
+    worked station summerDay threeMeans (summerEntries 954_675) (entries .1) constants (roots .1) refl refl refl,
   ),
   (
-    worked station windyDay summerMeans (summerEntries 954_675) (entries .1) constants (roots .1) refl refl,
-    worked (limited 1_200) windyDay summerMeans (summerEntries 954_675) (entries .1) constants (roots .1) refl refl,
-    worked (limited 1_000) windyDay summerMeans (summerEntries 954_675) (entries .1) constants (roots .1) refl refl,
+    worked station windyDay summerMeans (summerEntries 954_675) (entries .1) constants (roots .1) refl refl refl,
+    worked (limited 1_200) windyDay summerMeans (summerEntries 954_675) (entries .1) constants (roots .1) refl refl refl,
+    worked (limited 1_000) windyDay summerMeans (summerEntries 954_675) (entries .1) constants (roots .1) refl refl refl,
   ),
+  worked station noDewPoint summerMeans (summerEntries 954_675) (entries .1) constants (roots .2) refl refl refl,
 )
 
 pub days : Days
@@ -246,3 +262,6 @@ days = all-worked .0
 
 pub limits : Limits
 limits = all-worked .1
+
+pub estimates : Estimates
+estimates = all-worked .2

@@ -1,30 +1,48 @@
 -- No answered day's figure is above 8 inches, so that whoever writes one knows how long it can be. The theorem is `figure-most`;
 -- that every figure is in the sheet's own range (`figure-in-range`) follows from it. Assumes nothing.
-use mathlib.Core.Path.{_≡_, subst}
+use mathlib.Core.Bool.{Bool, true, false, cond}
+use mathlib.Core.Path.{_≡_, refl}
 use Prim.Native.Nat.{ℕ, _≤_}
 use native.Mathlib.Omega.{arith}
 use Rattle.equation.proofs.FigureLimit as sheet-limit
-use Rattle.day.specs.Judgement.{readingsOf, entriesOf, clearOf, meansOf, earlierOf, figureOf, judged}
-use Rattle.day.specs.Bound.{SignedConstants, FigureInRange}
+use Rattle.day.specs.Judgement.{readingsOf, entriesOf, clearOf, meansOf, earlierOf, figureOf, standingOf, lacksDewPoint, asJudged, withMark, verdictWith, judged}
+use Rattle.day.specs.Bound.{SignedConstants, FigureAtMost, FigureInRange}
 use Rattle.day.specs.declared.Station.{Station}
 use Rattle.day.specs.declared.Day.{Day}
 use Rattle.day.specs.declared.Earlier.{Earlier}
+use Rattle.day.specs.declared.Standing.{Standing}
+use Rattle.day.specs.declared.Standing.the-variants as standing
 use Rattle.day.specs.declared.Verdict.{Verdict}
-use Rattle.day.specs.declared.Verdict.the-variants.{Figure, Refused}
-use Rattle.day.proofs.Standings.{figure-answered}
+use Rattle.day.specs.declared.Verdict.the-variants.{Figure, Refused, Estimated}
+use Rattle.day.proofs.Standings.{stands-answered}
 use Rattle.day.proofs.DayBound.{constantsOf, accepted}
 
 -- in ten-thousandths of an inch
 abbrev pub mostFigure : ℕ
 mostFigure = 80_000
 
-pub figure-most : (st : Station) (x : Day) (earlier : Earlier) → SignedConstants st → {n : ℕ} → judged st x earlier ≡ Figure n → n ≤ mostFigure
-unfolding figureOf earlierOf clearOf
-figure-most st x earlier constants told =
-    let answered = figure-answered st x earlier told in
-    subst (λ (n : ℕ). n ≤ mostFigure) (answered .1)
-    (sheet-limit.figure-most (readingsOf x) (entriesOf st x) (meansOf earlier) (constantsOf st x) (accepted st x earlier constants (answered .0)))
+marked-most : (lacks : Bool) (n : ℕ) → n ≤ mostFigure → FigureAtMost mostFigure (cond lacks (Estimated n) (Figure n))
+marked-most true n h = h
+marked-most false n h = h
 
-pub figure-in-range : (st : Station) (x : Day) (earlier : Earlier) → SignedConstants st → (v : Verdict) → judged st x earlier ≡ v → FigureInRange v
-figure-in-range st x earlier constants (Figure n) told = omega (arith, figure-most st x earlier constants told)
-figure-in-range st x earlier constants (Refused r) told = tt
+pub figure-most : (st : Station) (x : Day) (earlier : Earlier) → SignedConstants st → FigureAtMost mostFigure (judged st x earlier)
+unfolding judged withMark figureOf earlierOf clearOf
+figure-most st x earlier constants = by (standingOf st (asJudged x) earlier) refl
+  where
+    y : Day
+    y = asJudged x
+
+    by : (s : Standing) → standingOf st (asJudged x) earlier ≡ s → FigureAtMost mostFigure (verdictWith s (withMark x (figureOf st (asJudged x) earlier)))
+    by (standing.Refused r) p = tt
+    by standing.Answered p =
+        marked-most (lacksDewPoint x) (figureOf st y earlier)
+        (sheet-limit.figure-most (readingsOf y) (entriesOf st y) (meansOf earlier) (constantsOf st y)
+        (accepted st y earlier constants (stands-answered st y earlier p)))
+
+wider : (v : Verdict) → FigureAtMost mostFigure v → FigureInRange v
+wider (Figure n) h = omega arith
+wider (Refused r) h = tt
+wider (Estimated n) h = omega arith
+
+pub figure-in-range : (st : Station) (x : Day) (earlier : Earlier) → SignedConstants st → FigureInRange (judged st x earlier)
+figure-in-range st x earlier constants = wider (judged st x earlier) (figure-most st x earlier constants)

@@ -1,11 +1,10 @@
--- What a day's standing tells: a day that stands answered is one that no refusal holds of, and the other way round; so is one whose verdict is a
--- figure; and the refusals asked in two parts are the refusals asked in a row. Assumes nothing.
+-- What a day's standing tells: a day that stands answered is one that no refusal holds of, and the other way round; its verdict is then its figure;
+-- and the refusals asked in two parts are the refusals asked in a row. Assumes nothing.
 use mathlib.Core.Path.{_≡_, refl, sym, _∙_, ap, subst}
 use mathlib.Core.Bool.{Bool, true, false, cond}
 use mathlib.Core.List.{List, [], _∷_, _++_}
-use Prim.Native.Nat.{ℕ}
 use lib.Dec.{T}
-use Rattle.day.specs.Judgement.{holds, Answered, firstOf, inOrder, standingOf, verdictWith, judged, figureOf}
+use Rattle.day.specs.Judgement.{holds, Answered, firstOf, inOrder, standingOf, asJudged, withMark, verdictWith, judged, figureOf}
 use Rattle.day.specs.declared.Station.{Station}
 use Rattle.day.specs.declared.Day.{Day}
 use Rattle.day.specs.declared.Earlier.{Earlier}
@@ -13,8 +12,6 @@ use Rattle.day.specs.declared.Refusal.{Refusal}
 use Rattle.day.specs.declared.Refusal.the-variants.{StationField, BadDate, Missing, OutOfRange, OutOfOrder, AboveClear, SumBelowOne}
 use Rattle.day.specs.declared.Standing.{Standing}
 use Rattle.day.specs.declared.Standing.the-variants as standing
-use Rattle.day.specs.declared.Verdict.{Verdict}
-use Rattle.day.specs.declared.Verdict.the-variants.{Figure, Refused}
 
 -- ---- asked in two parts
 
@@ -53,15 +50,6 @@ none-first : (rs : List Refusal) (held : Refusal → Bool) → ((r : Refusal) �
 none-first [] held h = refl
 none-first (r ∷ rs) held h = ap (λ (b : Bool). cond b (standing.Refused r) (firstOf rs held)) (h r) ∙ none-first rs held h
 
--- whether a verdict is a figure, and the figure
-abbrev isFigure : Verdict → Bool
-isFigure (Figure n) = true
-isFigure (Refused r) = false
-
-abbrev figureIn : Verdict → ℕ
-figureIn (Figure n) = n
-figureIn (Refused r) = 0
-
 module _ (st : Station) (day : Day) (earlier : Earlier) where
   -- what is told before the sheet, and else by it
   pub stands : {s t : Standing} → s ≡ firstOf (StationField ∷ BadDate ∷ Missing ∷ OutOfRange ∷ OutOfOrder ∷ []) (λ r. holds r st day earlier) →
@@ -89,16 +77,9 @@ module _ (st : Station) (day : Day) (earlier : Earlier) where
       each h AboveClear = h .1 .1 .1 .1 .1 .0
       each h SumBelowOne = h .1 .1 .1 .1 .1 .1 .0
 
-  pub answered-figure : Answered st day earlier → judged st day earlier ≡ Figure (figureOf st day earlier)
+  -- the day as it is judged has the figure, and the mark is the day's own
+  pub answered-figure : Answered st (asJudged day) earlier → judged st day earlier ≡ withMark day (figureOf st (asJudged day) earlier)
   unfolding judged standingOf Answered
   answered-figure answered =
-      ap (λ (s : Standing). verdictWith s (figureOf st day earlier)) (none-first inOrder (λ r. holds r st day earlier) (λ r. answered r))
-
-  -- the other way round
-  pub figure-answered : {n : ℕ} → judged st day earlier ≡ Figure n → Answered st day earlier × (figureOf st day earlier ≡ n)
-  unfolding judged
-  figure-answered {n} e = by (standingOf st day earlier) refl e
-    where
-      by : (s : Standing) → standingOf st day earlier ≡ s → verdictWith s (figureOf st day earlier) ≡ Figure n → Answered st day earlier × (figureOf st day earlier ≡ n)
-      by (standing.Refused r) p q = absurd (subst T (sym (ap isFigure q)) tt)
-      by standing.Answered p q = (stands-answered p, ap figureIn q)
+      ap (λ (s : Standing). verdictWith s (withMark day (figureOf st (asJudged day) earlier)))
+      (none-first inOrder (λ r. holds r st (asJudged day) earlier) (λ r. answered r))

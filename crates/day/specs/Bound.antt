@@ -15,14 +15,14 @@ use Rattle.sheet.specs.Quantities.{largestFigure}
 use Rattle.equation.specs.Equation.{Inputs, value}
 use Rattle.equation.specs.Equation as equation
 use Rattle.equation.specs.Nearness.{tenths, bound}
-use Rattle.day.specs.Judgement.{Answered}
+use Rattle.day.specs.Judgement.{Answered, asJudged, withMark}
 use Rattle.day.specs.declared.Station.{Station}
 use Rattle.day.specs.declared.Day.{Day}
 use Rattle.day.specs.declared.Mean.{Mean}
 use Rattle.day.specs.declared.Mean.the-variants.{Present, Absent}
 use Rattle.day.specs.declared.Earlier.{Earlier}
 use Rattle.day.specs.declared.Verdict.{Verdict}
-use Rattle.day.specs.declared.Verdict.the-variants.{Figure, Refused}
+use Rattle.day.specs.declared.Verdict.the-variants.{Figure, Refused, Estimated}
 
 -- "the earlier means present", in °F: of the three calendar days before, those that have one
 abbrev pub ifPresent : Mean → List ℚ → List ℚ
@@ -93,14 +93,21 @@ pub record SignedConstants (st : Station) : Type 0 where
   pub c4 : InRange limits.signedWord (st .c4)
   pub c5 : InRange limits.signedWord (st .c5)
 
--- what is owed to an answered day: a figure and no refusal, within the bound
+-- What is owed to an answered day: a figure and no refusal, with the mark where the minimum stands for its dew point, and within the bound. Both the
+-- rules and the equation, ea and x alike, are those of the day as it is judged.
 unfoldable pub FigureOwed : Station → Day → Earlier → Verdict → Type 0
-FigureOwed st day earlier verdict = Answered st day earlier → (n : ℕ) × (verdict ≡ Figure n) × WithinBound st day earlier n
+FigureOwed st day earlier verdict =
+    Answered st (asJudged day) earlier → (n : ℕ) × (verdict ≡ withMark day n) × WithinBound st (asJudged day) earlier n
+
+-- the figure of a verdict that has one, marked or not, is at most so much
+abbrev pub FigureAtMost : ℕ → Verdict → Type 0
+FigureAtMost most (Figure n) = n ≤ most
+FigureAtMost most (Refused r) = Unit {0}
+FigureAtMost most (Estimated n) = n ≤ most
 
 -- no figure is above the largest that the sheet's own range has: 150,000 ten-thousandths of an inch
 abbrev pub FigureInRange : Verdict → Type 0
-FigureInRange (Figure n) = n ≤ largestFigure
-FigureInRange (Refused r) = Unit {0}
+FigureInRange = FigureAtMost largestFigure
 
 -- the demand, over any judge of days
 unfoldable pub JudgesWithinBound : (Station → Day → Earlier → Verdict) → Type 0

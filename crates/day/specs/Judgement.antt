@@ -1,4 +1,5 @@
--- One day judged: what the step sheet is worked from, when each refusal holds, which one does first, and the verdict. Assumes nothing.
+-- One day judged: what the step sheet is worked from, when each refusal holds, which one does first, what stands for a missing dew point, and the
+-- verdict. Assumes nothing.
 use mathlib.Core.Bool.{Bool, false, not, cond}
 use mathlib.Core.List.{List, [], _∷_}
 use mathlib.Core.Path.{_≡_}
@@ -12,7 +13,7 @@ use Rattle.sheet.specs.declared.Readings.{Readings}
 use Rattle.sheet.specs.declared.Entries.{Entries}
 use Rattle.sheet.specs.declared.Earlier.{Earlier as SheetEarlier}
 use Rattle.day.specs.Calendar.{isDate}
-use Rattle.day.specs.Rules.{anyOf, badStation, missingMarks, readingFaults, meanFault, orderFaults}
+use Rattle.day.specs.Rules.{anyOf, badStation, isMissing, otherMarks, missingMarks, readingFaults, meanFault, orderFaults}
 use Rattle.day.specs.declared.Station.{Station}
 use Rattle.day.specs.declared.Day.{Day}
 use Rattle.day.specs.declared.Mean.{Mean}
@@ -23,7 +24,7 @@ use Rattle.day.specs.declared.Refusal.the-variants.{StationField, BadDat
 use Rattle.day.specs.declared.Standing.{Standing}
 use Rattle.day.specs.declared.Standing.the-variants as standing
 use Rattle.day.specs.declared.Verdict.{Verdict}
-use Rattle.day.specs.declared.Verdict.the-variants.{Figure, Refused}
+use Rattle.day.specs.declared.Verdict.the-variants.{Figure, Refused, Estimated}
 
 -- ---- what the sheet is worked from
 
@@ -99,7 +100,7 @@ holds SumBelowOne st x earlier = sheet.sumBelowOne (x .mean) (pos (pressureAt (s
 unfoldable pub Answered : Station → Day → Earlier → Type 0
 Answered st x earlier = (r : Refusal) → holds r st x earlier ≡ false
 
--- ---- the verdict
+-- ---- which holds first
 
 -- the first of some refusals that holds, or that none does
 abbrev pub firstOf : List Refusal → (Refusal → Bool) → Standing
@@ -113,10 +114,37 @@ inOrder = StationField ∷ BadDate ∷ Missing ∷ OutOfRange ∷ OutOfOrder ∷
 unfoldable pub standingOf : Station → Day → Earlier → Standing
 standingOf st x earlier = firstOf inOrder (λ r. holds r st x earlier)
 
+-- ---- a day without a dew point (02, W4)
+
+-- "When the dew point is the only reading missing"
+unfoldable pub lacksDewPoint : Day → Bool
+lacksDewPoint x = cond (isMissing (x .dewpoint)) (not (anyOf (otherMarks (x .maximum) (x .minimum) (x .mean) (x .radiation) (x .wind)))) false
+
+-- "the minimum temperature now takes its place": the day as it is judged. No reading of it is tested before, so that 7 "remains for any other missing
+-- reading", and 8 and 9 are those of the substitute.
+unfoldable pub asJudged : Day → Day
+asJudged x =
+    record {
+      year = x .year;
+      d = x .d;
+      maximum = x .maximum;
+      minimum = x .minimum;
+      mean = x .mean;
+      dewpoint = cond (lacksDewPoint x) (x .minimum) (x .dewpoint);
+      radiation = x .radiation;
+      wind = x .wind;
+    }
+
+-- "gets its figure with a mark"
+unfoldable pub withMark : Day → ℕ → Verdict
+withMark x n = cond (lacksDewPoint x) (Estimated n) (Figure n)
+
+-- ---- the verdict
+
 -- "It returns its figure or the first of .."
-abbrev pub verdictWith : Standing → ℕ → Verdict
-verdictWith (standing.Refused r) n = Refused r
-verdictWith standing.Answered n = Figure n
+abbrev pub verdictWith : Standing → Verdict → Verdict
+verdictWith (standing.Refused r) v = Refused r
+verdictWith standing.Answered v = v
 
 unfoldable pub judged : Station → Day → Earlier → Verdict
-judged st x earlier = verdictWith (standingOf st x earlier) (figureOf st x earlier)
+judged st x earlier = verdictWith (standingOf st (asJudged x) earlier) (withMark x (figureOf st (asJudged x) earlier))

@@ -1,4 +1,4 @@
-// A day judged: what refuses it, or else its figure. `judge` is a day handed in alone, and asks nothing of its caller.
+// A day judged: what refuses it, or else its figure, with the mark where the minimum stands for its dew point. `judge` is a day handed in alone, and asks nothing of its caller.
 ghost use mathlib.Core.Path.{_≡_};
 ghost use Rattle.tables.specs.Tables.{DayTables, PressureTable};
 ghost use Rattle.day.specs.Bound.{FigureOwed, FigureInRange};
@@ -8,6 +8,8 @@ use crate::Earlier;
 use crate::Standing;
 use crate::Station;
 use crate::Verdict;
+use crate::dew_point::as_judged;
+use crate::dew_point::with_mark;
 use crate::inputs::clear_of;
 use crate::inputs::earlier_of;
 use crate::inputs::entries_at;
@@ -48,9 +50,10 @@ pub fn judge_by(
     ensures { λ r. ⌜ FigureOwed station day earlier r ⌝ }
     ensures { λ r. ⌜ FigureInRange r ⌝ }
 {
-    match standing(pressures, station, day, earlier) {
+    let x = as_judged(day);
+    match standing(pressures, station, x, earlier) {
         Standing::Refused(why) => Verdict::Refused(why),
-        Standing::Answered => Verdict::Figure(figure(days, pressures, station, day, earlier)),
+        Standing::Answered => with_mark(day, figure(days, pressures, station, x, earlier)),
     }
 }
 

@@ -3,6 +3,7 @@ ghost use mathlib.Core.Path.{_≡_};
 ghost use Rattle.day.specs.Rules.{numberOf};
 
 pub mod calendar;
+pub mod dew_point;
 mod inputs;
 pub mod judge;
 pub mod readings;
@@ -73,10 +74,11 @@ pub enum Standing {
     Answered,
 }
 
-// The figure in 0.0001 inch, or the refusal.
+// The figure in 0.0001 inch, or the refusal; or the figure with the mark that the minimum stood for a missing dew point.
 pub enum Verdict {
     Figure(u32),
     Refused(Refusal),
+    Estimated(u32),
 }
 
 impl Refusal {

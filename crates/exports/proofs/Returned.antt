@@ -5,7 +5,7 @@ use Prim.Native.Nat.{ℕ, _<_}
 use native.Mathlib.Omega.{arith}
 use borrow.Author.Tests.{ne-eqb}
 use Rattle.day.proofs.Tests.{first-there}
-use Rattle.exports.specs.Told.{refused, said}
+use Rattle.exports.specs.Told.{refused, markNumber, said}
 use Rattle.log.proofs.OutcomeSize.{Small, outcome-small}
 use Rattle.log.specs.Log.{outcomeOf}
 use Rattle.log.specs.declared.Outcome.the-variants.{Written, Refused}
@@ -17,6 +17,10 @@ module _ (s : List ℕ) (size : ℕ) where
   pub refused-small : {k place : ℕ} → Refused k place ≡ outcomeOf s size → place < 4294967296
   refused-small e = omega (arith, subst Small (sym e) (outcome-small s size) .1)
 
-  -- no refusal of a log has the number 0
+  -- no refusal of a log has the number 0 or the mark's
   pub refused-said : {k place : ℕ} → Refused k place ≡ outcomeOf s size → said k place ≡ refused k place
-  refused-said {k} {place} e = sym (first-there _ (ne-eqb k 0 (λ z. omega (arith, z, subst Small (sym e) (outcome-small s size) .0 .0))) refl)
+  refused-said {k} {place} e =
+      let small = subst Small (sym e) (outcome-small s size) in
+      sym
+      (first-there _ (ne-eqb k 0 (λ z. omega (arith, z, small .0 .0)))
+      (first-there _ (ne-eqb k markNumber (λ z. omega (arith, z, small .0 .1))) refl))

@@ -9,7 +9,7 @@ use lib.Dec.{eqb}
 use Rattle.day.specs.Bound.{FigureOwed}
 use Rattle.day.specs.Judgement.{judged}
 use Rattle.day.specs.Rules.{numberOf}
-use Rattle.exports.specs.Told.{Said, accepted, refused, said, saidBy, verdictSaid, FigureSaid}
+use Rattle.exports.specs.Told.{Said, accepted, refused, estimated, markNumber, said, saidBy, verdictSaid, FigureSaid}
 use Rattle.day.specs.declared.Day.{Day}
 use Rattle.day.specs.declared.Earlier.{Earlier}
 use Rattle.day.specs.declared.Refusal.{Refusal}
@@ -28,26 +28,30 @@ halves-said k v low =
 abbrev numberIn : Said → ℕ
 numberIn (accepted n) = 0
 numberIn (refused k v) = k
+numberIn (estimated n) = markNumber
 
 abbrev valueIn : Said → ℕ
 valueIn (accepted n) = n
 valueIn (refused k v) = v
+valueIn (estimated n) = n
 
 said-number : (k v : ℕ) → k ≡ numberIn (said k v)
-said-number k v = by (eqb k 0) refl
+said-number k v = by (eqb k 0) (eqb k markNumber) refl refl
   where
-    by : (t : Bool) → eqb k 0 ≡ t → k ≡ numberIn (cond t (accepted v) (refused k v))
-    by true e = eqb-true k 0 e
-    by false e = refl
+    by : (t u : Bool) → eqb k 0 ≡ t → eqb k markNumber ≡ u → k ≡ numberIn (cond t (accepted v) (cond u (estimated v) (refused k v)))
+    by true u e f = eqb-true k 0 e
+    by false true e f = eqb-true k markNumber f
+    by false false e f = refl
 
 said-value : (k v : ℕ) → v ≡ valueIn (said k v)
-said-value k v = by (eqb k 0)
+said-value k v = by (eqb k 0) (eqb k markNumber)
   where
-    by : (t : Bool) → v ≡ valueIn (cond t (accepted v) (refused k v))
-    by true = refl
-    by false = refl
+    by : (t u : Bool) → v ≡ valueIn (cond t (accepted v) (cond u (estimated v) (refused k v)))
+    by true u = refl
+    by false true = refl
+    by false false = refl
 
--- no refusal of a day has the number 0
+-- no refusal of a day has the number 0 or the mark's
 pub refusal-said : (why : Refusal) → said (numberOf why) 0 ≡ refused (numberOf why) 0
 refusal-said StationField = refl
 refusal-said BadDate = refl

@@ -19,7 +19,10 @@ use day::judge::judge;
 use log::Outcome;
 use text::Printed;
 
-// A refusal's number, 0 for none, in the high half, and a value in the low half.
+// The number of the mark in the high half: a refusal's has one byte.
+const MARK: u32 = 256;
+
+// A refusal's number, 0 for none, or the mark's in the high half, and a value in the low half.
 fn packed(number: u32, value: u32) -> u64
     ensures { λ r. ⌜ saidBy r ≡ said number value ⌝ }
 {
@@ -36,7 +39,7 @@ fn mean_of(flag: u8, tenths: i16) -> Mean
     Mean::Present(tenths)
 }
 
-// A day handed in alone. The high half of the result is the refusal's number, 0 for none; the low half is then the figure.
+// A day handed in alone. The high half of the result is the refusal's number, or 0 or the mark's for none; the low half is then the figure.
 #[no_mangle]
 pub extern "C" fn fuortwem_judge(
     first: u8,
@@ -104,6 +107,7 @@ pub extern "C" fn fuortwem_judge(
     match judge(station, day, earlier) {
         Verdict::Figure(n) => packed(0, n),
         Verdict::Refused(why) => packed(why.number(), 0),
+        Verdict::Estimated(n) => packed(MARK, n),
     }
 }
 

@@ -16,7 +16,7 @@ use Rattle.day.specs.declared.Code.{Code}
 use Rattle.day.specs.declared.Refusal.{Refusal}
 use Rattle.day.specs.declared.Refusal.the-variants.{StationField, BadDate, Missing, OutOfRange, OutOfOrder, AboveClear, SumBelowOne}
 use Rattle.day.specs.declared.Verdict.{Verdict}
-use Rattle.day.specs.declared.Verdict.the-variants.{Figure, Refused}
+use Rattle.day.specs.declared.Verdict.the-variants.{Figure, Refused, Estimated}
 use Rattle.lines.specs.Text.{digits, padded, inches, field, verdictText, dayLine, cropLine, refusedLine}
 use Rattle.lines.proofs.Digits.{padded-short, digits-most, padded-most, inches-most}
 
@@ -37,12 +37,20 @@ pub refusal-most : (r : Refusal) → length (verdictText (Refused r)) ≤ 3
 unfolding verdictText
 refusal-most r = omega (arith, digits-most 1 (numberOf r) (two-digits r))
 
--- at most 6 digits, a point and 4 decimals
-verdict-most : (v : Verdict) → Handed v → length (verdictText v) ≤ 11
+-- the mark is two bytes
+pub estimate-size : (n : ℕ) → length (verdictText (Estimated n)) ≡ length (inches n) + 2
+unfolding verdictText
+estimate-size n = length-append (inches n) (field (69 ∷ []))
+
+-- at most 6 digits, a point, 4 decimals and the mark
+verdict-most : (v : Verdict) → Handed v → length (verdictText v) ≤ 13
 unfolding verdictText
 verdict-most (Figure n) handed =
     let fits : n < 2 ^ 32 = handed .1 .1 .1 .1 .0 .1 in
-    inches-most 5 n (omega arith)
+    omega (arith, inches-most 5 n (omega arith))
+verdict-most (Estimated n) handed =
+    let fits : n < 2 ^ 32 = handed .1 .1 .1 .1 .0 .1 in
+    omega (arith, estimate-size n, inches-most 5 n (omega arith))
 verdict-most (Refused r) handed = omega (arith, refusal-most r)
 
 pub day-line-size : (code : Code) (year d : ℕ) (v : Verdict)

@@ -5,7 +5,7 @@ use lib.ListN.{length, replicate}
 use Rattle.day.specs.Rules.{numberOf}
 use Rattle.day.specs.declared.Code.{Code}
 use Rattle.day.specs.declared.Verdict.{Verdict}
-use Rattle.day.specs.declared.Verdict.the-variants.{Figure, Refused}
+use Rattle.day.specs.declared.Verdict.the-variants.{Figure, Refused, Estimated}
 
 -- the bytes of a space, of a decimal point, of a newline, and of a digit from 0 to 9
 abbrev pub space : ℕ
@@ -38,11 +38,6 @@ padded k n = replicate (k - length (digits n)) (digit 0) ++ digits n
 unfoldable pub inches : ℕ → List ℕ
 inches n = digits (n / 10_000) ++ point ∷ padded 4 (n % 10_000)
 
--- "or R and the number"
-unfoldable pub verdictText : Verdict → List ℕ
-verdictText (Figure n) = inches n
-verdictText (Refused r) = 82 ∷ digits (numberOf r)
-
 -- the four letters of a code
 abbrev pub codeText : Code → List ℕ
 codeText code = code .first ∷ code .second ∷ code .third ∷ code .fourth ∷ []
@@ -51,11 +46,17 @@ codeText code = code .first ∷ code .second ∷ code .third ∷ code .fourth �
 abbrev pub field : List ℕ → List ℕ
 field text = space ∷ text
 
+-- "or R and the number"; and "kind 3's line, code included, then a space and an E" (02, W4)
+unfoldable pub verdictText : Verdict → List ℕ
+verdictText (Figure n) = inches n
+verdictText (Refused r) = 82 ∷ digits (numberOf r)
+verdictText (Estimated n) = inches n ++ field (69 ∷ [])
+
 -- `STN YEAR DAY ET`
 abbrev pub header : List ℕ
 header = 83 ∷ 84 ∷ 78 ∷ space ∷ 89 ∷ 69 ∷ 65 ∷ 82 ∷ space ∷ 68 ∷ 65 ∷ 89 ∷ space ∷ 69 ∷ 84 ∷ newline ∷ []
 
--- the line of a day: code, year, day, and the inches or the refusal
+-- the line of a day: code, year, day, and the inches, with the mark if they have one, or the refusal
 unfoldable pub dayLine : Code → ℕ → ℕ → Verdict → List ℕ
 dayLine code year d verdict =
     codeText code ++ field (padded 4 year) ++ field (padded 3 d) ++ field (verdictText verdict) ++ newline ∷ []

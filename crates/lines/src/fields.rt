@@ -86,7 +86,7 @@ pub fn put_number_field(out: &mut [u8], at: usize, least: usize, n: u64) -> usiz
     put_number(out, start, least, n)
 }
 
-// A day's inches, or R and the refusal's number.
+// A day's inches, with a space and an E where they have the mark, or R and the refusal's number.
 fn put_verdict(out: &mut [u8], at: usize, verdict: Verdict) -> usize
     requires { ⌜ at + length (verdictText verdict) ≤ length (now out) ⌝ }
     ensures { λ r. ⌜ Written (now (out .entry)) at (verdictText verdict) (now (out .exit)) r ⌝ }
@@ -96,6 +96,11 @@ fn put_verdict(out: &mut [u8], at: usize, verdict: Verdict) -> usize
         Verdict::Refused(r) => {
             let start = put_byte(out, at, b'R');
             put_digits(out, start, r.number() as u64)
+        }
+        Verdict::Estimated(n) => {
+            let inches_end = put_inches(out, at, n as u64);
+            let mark = put_byte(out, inches_end, b' ');
+            put_byte(out, mark, b'E')
         }
     }
 }

@@ -1,7 +1,7 @@
 -- What is promised of crop figures holds of what is read of a log. The theorem is `crop-figures-met`. The bound follows from the day's own and from the
 -- one rounding: nothing of the sheet is used. Assumes nothing.
 use mathlib.Core.Path.{_≡_, refl, sym, ap, _∙_, subst}
-use mathlib.Core.Bool.{Bool, false, cond}
+use mathlib.Core.Bool.{Bool, true, false, cond}
 use mathlib.Core.List.{List, [], _∷_}
 use Prim.Native.Nat.{ℕ}
 use Rattle.crops.specs.Crop.{badCrop, cropFigure}
@@ -9,31 +9,49 @@ use Rattle.crops.specs.declared.Crop.{Crop}
 use Rattle.crops.proofs.CropBound.{crop-within-bound, crop-within-proved}
 use Rattle.crops.proofs.CropFigure.{twice-most}
 use Rattle.day.specs.Bound.{Within, WithinBound, provedBound, FigureOwed, JudgesWithinBound}
-use Rattle.day.specs.Judgement.{judged}
+use Rattle.day.specs.Judgement.{lacksDewPoint, asJudged, withMark, judged}
 use Rattle.day.specs.declared.Day.{Day}
 use Rattle.day.specs.declared.Earlier.{Earlier}
 use Rattle.day.specs.declared.Station.{Station}
 use Rattle.day.specs.declared.Verdict.{Verdict}
-use Rattle.day.specs.declared.Verdict.the-variants.{Figure}
+use Rattle.day.specs.declared.Verdict.the-variants.{Figure, Estimated}
 use Rattle.day.proofs.DayBound.{judged-within-bound, judged-within-proved}
-use Rattle.answers.specs.Answers.{dayAnswer, answerBytes}
+use Rattle.answers.specs.Answers.{valueOf, dayAnswer, answerBytes}
 use Rattle.answers.specs.declared.Answer.{Answer}
 use Rattle.answers.specs.declared.Answer.the-variants as answer
 use Rattle.log.specs.CropFigures.{CropDay, CropFigureAt, CropFiguresOwed, EveryCropFigure}
 use Rattle.log.specs.Demand.{AnsweredLog, FiguresOwed}
-use Rattle.log.specs.Log.{Planted, planted, cropAnswers, bufferAfter, Read}
+use Rattle.log.specs.Log.{Planted, planted, cropAnswer, cropAnswers, bufferAfter, Read}
 use Rattle.log.specs.declared.Outcome.{Outcome}
 use Rattle.log.proofs.Days.{answer-at, crop-answer-at}
-use Rattle.log.proofs.Demand.{answered, log-within-bound}
+use Rattle.log.proofs.Demand.{marked-bytes, answered, log-within-bound}
 use Rattle.log.proofs.Stations.{station-sound, station-constants, crop-faultless}
+
+-- a mark hides no figure
+one-figure : (x : Day) {n m : ℕ} → withMark x n ≡ withMark x m → n ≡ m
+unfolding withMark
+one-figure x {n} {m} e = by (lacksDewPoint x) e
+  where
+    by : (lacks : Bool) → cond lacks (Estimated n) (Figure n) ≡ cond lacks (Estimated m) (Figure m) → n ≡ m
+    by true e = ap valueOf e
+    by false e = ap valueOf e
+
+-- and a crop's answer is the same with it
+marked-alike : (c : Crop) (x : Day) (n : ℕ) → cropAnswers (planted c) x (withMark x n) ≡ cropAnswer c x n
+unfolding withMark
+marked-alike c x n = by (lacksDewPoint x)
+  where
+    by : (lacks : Bool) → cropAnswers (planted c) x (cond lacks (Estimated n) (Figure n)) ≡ cropAnswer c x n
+    by true = refl
+    by false = refl
 
 module _ {s : List ℕ} {i : ℕ} {st : Station} {x : Day} {earlier : Earlier} {place : ℕ} {c : Crop} (d : CropDay s i st x earlier place c) where
   -- the day's figure, with both its bounds
   record Figured : Type 0 where
     n : ℕ
-    told : judged st x earlier ≡ Figure n
-    demanded : WithinBound st x earlier n
-    proved : Within provedBound st x earlier n
+    told : judged st x earlier ≡ withMark x n
+    demanded : WithinBound st (asJudged x) earlier n
+    proved : Within provedBound st (asJudged x) earlier n
 
   figured : Figured
   unfolding JudgesWithinBound FigureOwed
@@ -41,35 +59,33 @@ module _ {s : List ℕ} {i : ℕ} {st : Station} {x : Day} {earlier : Earlier} {
       let constants = station-constants (station-sound s (d .answered .at)) in
       let first = judged-within-bound st x earlier constants (answered (d .answered)) in
       let second = judged-within-proved st x earlier constants (answered (d .answered)) in
-      let told = first .1 in
-      let told-too = second .1 in
-      let same : second .0 ≡ first .0 = cc in
-      record { n = first .0; told = told; demanded = first .2; proved = subst (Within provedBound st x earlier) same (second .2) }
+      record { n = first .0; told = first .1; demanded = first .2; proved = subst (Within provedBound st (asJudged x) earlier) (one-figure x (sym (second .1) ∙ first .1)) (second .2) }
 
   good : badCrop c ≡ false
   good = crop-faultless s (d .answered .at) (d .holds)
 
   -- the answers of the crop that holds are its figure
-  one-answer : (n : ℕ) → judged st x earlier ≡ Figure n
+  one-answer : (n : ℕ) → judged st x earlier ≡ withMark x n
       → cropAnswers (d .answered .at .block .crop) x (judged st x earlier) ≡ answer.Crop (c .code) (cropFigure c (x .d) n) ∷ []
   one-answer n told =
       ap (λ (pl : Planted). cropAnswers pl x (judged st x earlier)) (d .holds)
       ∙ ap (cropAnswers (planted c) x) told
+      ∙ marked-alike c x n
       ∙ ap (λ (b : Bool). cond b (answer.Crop (c .code) (cropFigure c (x .d) n) ∷ []) []) (d .season)
 
   crop-figure-at : (buffer : List ℕ) → AnsweredLog s buffer → CropFigureAt st x earlier place c (bufferAfter s buffer)
-  unfolding AnsweredLog
+  unfolding AnsweredLog asJudged
   crop-figure-at buffer log =
       let n = figured .n in
       record {
         reference = n;
         figure = cropFigure c (x .d) n;
-        own = answer-at (d .answered .at) buffer (log .1) ∙ ap (λ (v : Verdict). answerBytes (dayAnswer x v)) (figured .told);
+        own = answer-at (d .answered .at) buffer (log .1) ∙ ap (λ (v : Verdict). answerBytes (dayAnswer x v)) (figured .told) ∙ marked-bytes x n;
         behind = crop-answer-at (d .answered .at) buffer (log .1) {a = answer.Crop (c .code) (cropFigure c (x .d) n)} refl (one-answer n (figured .told));
         defined = refl;
         twice = twice-most c good (x .d) n;
-        within = crop-within-bound c good st x earlier n (figured .demanded);
-        sharper = crop-within-proved c good st x earlier n (figured .proved);
+        within = crop-within-bound c good st (asJudged x) earlier n (figured .demanded);
+        sharper = crop-within-proved c good st (asJudged x) earlier n (figured .proved);
       }
 
 pub crop-figures-met : EveryCropFigure bufferAfter

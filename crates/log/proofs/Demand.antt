@@ -1,28 +1,37 @@
 -- Demand 3, entire: what is read of a log, and what is judged of a day handed in alone, meet it. The theorem is `demand-met`. Assumes nothing.
 use mathlib.Core.Path.{_≡_, refl, ap, _∙_}
-use mathlib.Core.Bool.{not, false}
+use mathlib.Core.Bool.{Bool, true, false, not, cond}
 use mathlib.Core.List.{List}
 use Prim.Native.Nat.{ℕ}
 use Rattle.day.specs.Bound.{WithinBound, FigureOwed, JudgesWithinBound}
-use Rattle.day.specs.Judgement.{holds, judged, Answered}
+use Rattle.day.specs.Judgement.{holds, Answered, lacksDewPoint, asJudged, withMark, judged}
 use Rattle.day.specs.declared.Day.{Day}
 use Rattle.day.specs.declared.Earlier.{Earlier}
 use Rattle.day.specs.declared.Refusal.{Refusal}
 use Rattle.day.specs.declared.Refusal.the-variants.{StationField, BadDate, Missing, OutOfRange, OutOfOrder, AboveClear, SumBelowOne}
 use Rattle.day.specs.declared.Station.{Station}
 use Rattle.day.specs.declared.Verdict.{Verdict}
-use Rattle.day.specs.declared.Verdict.the-variants.{Figure}
+use Rattle.day.specs.declared.Verdict.the-variants.{Figure, Estimated}
 use Rattle.day.proofs.DayBound.{judged-within-bound}
-use Rattle.answers.specs.Answers.{dayAnswer, answerBytes}
+use Rattle.answers.specs.Answers.{kindOf, valueOf, dated, dayAnswer, answerBytes}
 use Rattle.log.specs.Demand.{AnsweredLog, AnsweredDay, FigureAt, FiguresOwed, EveryFigureWithinBound}
 use Rattle.log.specs.Log.{bufferAfter}
 use Rattle.log.proofs.Days.{answer-at, good-in-calendar}
 use Rattle.log.proofs.Stations.{station-sound, station-constants}
 
+-- the mark changes an answer's kind and not its figure
+pub marked-bytes : (x : Day) (n : ℕ) → answerBytes (dayAnswer x (withMark x n)) ≡ dated (kindOf (withMark x n)) (x .year) (x .d) n
+unfolding withMark
+marked-bytes x n = ap (dated (kindOf (withMark x n)) (x .year) (x .d)) (value (lacksDewPoint x))
+  where
+    value : (lacks : Bool) → valueOf (cond lacks (Estimated n) (Figure n)) ≡ n
+    value true = refl
+    value false = refl
+
 module _ {s : List ℕ} {i : ℕ} {st : Station} {x : Day} {earlier : Earlier} {place : ℕ} (d : AnsweredDay s i st x earlier place) where
   -- a log with a faulty station is refused, and a good date is one of the calendar: so none of the refusals holds
-  none-holds : (r : Refusal) → holds r st x earlier ≡ false
-  unfolding holds
+  none-holds : (r : Refusal) → holds r st (asJudged x) earlier ≡ false
+  unfolding holds asJudged
   none-holds StationField = station-sound s (d .at) .faultless
   none-holds BadDate = ap not (good-in-calendar (d .at) refl)
   none-holds Missing = d .others Missing tt
@@ -31,17 +40,18 @@ module _ {s : List ℕ} {i : ℕ} {st : Station} {x : Day} {earlier : Earlier} {
   none-holds AboveClear = d .others AboveClear tt
   none-holds SumBelowOne = d .others SumBelowOne tt
 
-  pub answered : Answered st x earlier
+  pub answered : Answered st (asJudged x) earlier
   unfolding Answered
   answered = none-holds
 
-  owed : (n : ℕ) × (judged st x earlier ≡ Figure n) × WithinBound st x earlier n
+  owed : (n : ℕ) × (judged st x earlier ≡ withMark x n) × WithinBound st (asJudged x) earlier n
   unfolding JudgesWithinBound FigureOwed
   owed = judged-within-bound st x earlier (station-constants (station-sound s (d .at))) answered
 
   pub figure-at : (buffer : List ℕ) → AnsweredLog s buffer → FigureAt st x earlier place (bufferAfter s buffer)
   unfolding AnsweredLog FigureAt
-  figure-at buffer log = (owed .0, answer-at (d .at) buffer (log .1) ∙ ap (λ (v : Verdict). answerBytes (dayAnswer x v)) (owed .1), owed .2)
+  figure-at buffer log =
+      (owed .0, answer-at (d .at) buffer (log .1) ∙ ap (λ (v : Verdict). answerBytes (dayAnswer x v)) (owed .1) ∙ marked-bytes x (owed .0), owed .2)
 
 pub log-within-bound : (s buffer : List ℕ) → FiguresOwed s buffer (bufferAfter s buffer)
 unfolding FiguresOwed

@@ -12,7 +12,7 @@ use lib.ListN.{length, replicate}
 use Rattle.crops.specs.Crop.{badCrop, inSeason, above, cropFigure}
 use Rattle.crops.specs.declared.Crop.{Crop}
 use Rattle.day.specs.Calendar.{yearLength, isDate}
-use Rattle.day.specs.Judgement.{holds, standingOf, judged, Answered}
+use Rattle.day.specs.Judgement.{holds, standingOf, lacksDewPoint, asJudged, judged, Answered}
 use Rattle.day.specs.declared.Earlier.{Earlier}
 use Rattle.day.specs.declared.Mean.the-variants.{Present, Absent}
 use Rattle.day.specs.declared.Refusal.the-variants.{Missing}
@@ -57,7 +57,7 @@ at offset earlier = judged (stationAt cropLog 1) (dayAt cropLog offset) earlier
 
 lacking : (at 42 noMean ≡ Refused Missing) × (at 59 (oneMean 700) ≡ Refused Missing) × (at 112 noMean ≡ Refused Missing) × (at 129 (oneMean 455) ≡ Refused Missing)
     × (at 146 (record { one = Present (pos 610); two = Present (pos 455); three = Absent }) ≡ Refused Missing)
-unfolding judged standingOf holds stationAt dayAt wordAt signedOf signedAt isDate yearLength
+unfolding judged lacksDewPoint asJudged standingOf holds stationAt dayAt wordAt signedOf signedAt isDate yearLength
 lacking = (refl, refl, refl, refl, refl)
 
 -- ---- the answers, by the verdicts
@@ -98,10 +98,10 @@ unfolding readingOf readFrom recordAt stationAt dayAt cropAt wordAt signedOf sig
 worked =
     λ i.
     answer.Station (stationAt cropLog 1 .code)
-    ∷ (sown 42 (lacking .0 i) ++ (sown 59 (lacking .1 i) ++ (sown 76 (days .1 .verdict i)
+    ∷ (sown 42 (lacking .0 i) ++ (sown 59 (lacking .1 i) ++ (sown 76 (days .1 .told i)
     ++ (answer.Station (stationAt cropLog 93 .code)
     ∷ dayAnswer (dayAt cropLog 112) (lacking .2 i) ∷ dayAnswer (dayAt cropLog 129) (lacking .3 i) ∷ dayAnswer (dayAt cropLog 146) (lacking .4 i)
-    ∷ dayAnswer (dayAt cropLog 163) (days .2 .verdict i)
+    ∷ dayAnswer (dayAt cropLog 163) (days .2 .told i)
     ∷ []))))
 
 -- ---- a buffer of 84 bytes

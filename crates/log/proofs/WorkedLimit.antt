@@ -9,7 +9,7 @@ use native.Mathlib.Omega.{arith}
 use lib.Dec.{ltb}
 use lib.ListN.{length, replicate}
 use Rattle.day.specs.Calendar.{yearLength, isDate}
-use Rattle.day.specs.Judgement.{holds, standingOf, judged, Answered}
+use Rattle.day.specs.Judgement.{holds, standingOf, lacksDewPoint, asJudged, judged, Answered}
 use Rattle.day.specs.declared.Refusal.the-variants.{Missing}
 use Rattle.day.specs.declared.Station.{Station}
 use Rattle.day.specs.declared.Verdict.{Verdict}
@@ -51,7 +51,7 @@ second = stationAt limitLog 73
 
 lacking : (judged first (dayAt limitLog 22) noMean ≡ Refused Missing) × (judged first (dayAt limitLog 39) (oneMean 700) ≡ Refused Missing)
     × (judged second (dayAt limitLog 92) noMean ≡ Refused Missing) × (judged second (dayAt limitLog 109) (oneMean 700) ≡ Refused Missing)
-unfolding judged standingOf holds stationAt limitedStationAt dayAt wordAt signedOf signedAt isDate yearLength
+unfolding judged lacksDewPoint asJudged standingOf holds stationAt limitedStationAt dayAt wordAt signedOf signedAt isDate yearLength
 lacking = (refl, refl, refl, refl)
 
 -- the answers before that of day 180, in the first block
@@ -79,9 +79,9 @@ unfolding readingOf readFrom recordAt stationAt limitedStationAt dayAt wordAt si
 worked =
     λ i.
     answer.Station (first .code)
-    ∷ dayAnswer (dayAt limitLog 22) (lacking .0 i) ∷ dayAnswer (dayAt limitLog 39) (lacking .1 i) ∷ dayAnswer (dayAt limitLog 56) (limits .2 .verdict i)
+    ∷ dayAnswer (dayAt limitLog 22) (lacking .0 i) ∷ dayAnswer (dayAt limitLog 39) (lacking .1 i) ∷ dayAnswer (dayAt limitLog 56) (limits .2 .told i)
     ∷ answer.Station (second .code)
-    ∷ dayAnswer (dayAt limitLog 92) (lacking .2 i) ∷ dayAnswer (dayAt limitLog 109) (lacking .3 i) ∷ dayAnswer (dayAt limitLog 126) (limits .0 .verdict i)
+    ∷ dayAnswer (dayAt limitLog 92) (lacking .2 i) ∷ dayAnswer (dayAt limitLog 109) (lacking .3 i) ∷ dayAnswer (dayAt limitLog 126) (limits .0 .told i)
     ∷ []
 
 -- ---- a buffer of 66 bytes

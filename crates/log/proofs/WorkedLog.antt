@@ -7,7 +7,7 @@ use Prim.Native.Nat.{ℕ}
 use lib.IntN.{pos}
 use lib.ListN.{drop}
 use Rattle.day.specs.Calendar.{yearLength, isDate}
-use Rattle.day.specs.Judgement.{holds, standingOf, judged, Answered}
+use Rattle.day.specs.Judgement.{holds, standingOf, lacksDewPoint, asJudged, judged, Answered}
 use Rattle.day.specs.declared.Earlier.{Earlier}
 use Rattle.day.specs.declared.Mean.the-variants.{Present, Absent}
 use Rattle.day.specs.declared.Refusal.the-variants.{BadDate, Missing}
@@ -34,7 +34,7 @@ answered = record { at = third; others = λ r t. days .0 .answered r }
 -- days 10 and 11 lack the wind
 lacking : (judged (stationAt sample 1) (dayAt sample 20) (record { one = Absent; two = Absent; three = Absent }) ≡ Refused Missing)
     × (judged (stationAt sample 1) (dayAt sample 37) (record { one = Present (pos 200); two = Absent; three = Absent }) ≡ Refused Missing)
-unfolding judged standingOf holds stationAt dayAt wordAt signedOf signedAt isDate yearLength
+unfolding judged lacksDewPoint asJudged standingOf holds stationAt dayAt wordAt signedOf signedAt isDate yearLength
 lacking = (refl, refl)
 
 -- LIDW; day 10 and day 11 of 2008 refused with 7; day 12 with the figure 0
@@ -46,7 +46,7 @@ unfolding readingOf readFrom recordAt stationAt dayAt wordAt signedOf signedAt i
 worked =
     λ i.
     answer.Station (stationAt sample 1 .code)
-    ∷ dayAnswer (dayAt sample 20) (lacking .0 i) ∷ dayAnswer (dayAt sample 37) (lacking .1 i) ∷ dayAnswer (dayAt sample 54) (days .0 .verdict i)
+    ∷ dayAnswer (dayAt sample 20) (lacking .0 i) ∷ dayAnswer (dayAt sample 37) (lacking .1 i) ∷ dayAnswer (dayAt sample 54) (days .0 .told i)
     ∷ []
 
 -- a buffer of 34 bytes
@@ -84,7 +84,7 @@ year-end =
 
 lacking-too : (judged (stationAt twoBlocks 1) (dayAt twoBlocks 20) (record { one = Absent; two = Absent; three = Absent }) ≡ Refused Missing)
     × (judged (stationAt twoBlocks 1) (dayAt twoBlocks 37) (record { one = Present (pos 200); two = Absent; three = Absent }) ≡ Refused Missing)
-unfolding judged standingOf holds stationAt dayAt wordAt signedOf signedAt isDate yearLength
+unfolding judged lacksDewPoint asJudged standingOf holds stationAt dayAt wordAt signedOf signedAt isDate yearLength
 lacking-too = (refl, refl)
 
 abbrev room : List ℕ
@@ -111,5 +111,5 @@ two-blocks =
     ++ answerBytes (dayAnswer (dayAt sample 20) (lacking .0 i))
     ++ answerBytes (dayAnswer (dayAt sample 37) (lacking .1 i))
     ++ answerBytes (dayAnswer (dayAt sample 37) (Refused BadDate))
-    ++ answerBytes (dayAnswer (dayAt sample 54) (days .0 .verdict i))
+    ++ answerBytes (dayAnswer (dayAt sample 54) (days .0 .told i))
     ++ drop 64 room

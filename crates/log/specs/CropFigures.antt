@@ -8,10 +8,11 @@ use lib.ListN.{take, drop}
 use Rattle.crops.specs.Bound.{CropWithin, CropWithinBound, provedCropBound}
 use Rattle.crops.specs.Crop.{inSeason, cropFigure}
 use Rattle.crops.specs.declared.Crop.{Crop}
+use Rattle.day.specs.Judgement.{asJudged, withMark}
 use Rattle.day.specs.declared.Day.{Day}
 use Rattle.day.specs.declared.Earlier.{Earlier}
 use Rattle.day.specs.declared.Station.{Station}
-use Rattle.answers.specs.Answers.{four, dated, lettered}
+use Rattle.answers.specs.Answers.{kindOf, four, dated, lettered}
 use Rattle.log.specs.Demand.{AnsweredLog, AnsweredDay}
 use Rattle.log.specs.Log.{planted}
 
@@ -21,18 +22,18 @@ pub record CropDay (s : List ℕ) (i : ℕ) (st : Station) (x : Day) (earlier : 
   pub holds : answered .at .block .crop ≡ planted c
   pub season : inSeason c (x .year) (x .d) ≡ true
 
--- In the buffer at exit the nine bytes at the day's own place are its answer, with the reference figure. The nine bytes behind them are kind 7, the
+-- In the buffer at exit the nine bytes at the day's own place are its answer, of kind 3 or 9, with the reference figure. The nine bytes behind them are kind 7, the
 -- crop's capitals and a figure: that of the definition, at most twice the reference figure, and within 1.7 units of the unrounded value times the
 -- percentage. What is proved is sharper: 1.53.
 pub record CropFigureAt (st : Station) (x : Day) (earlier : Earlier) (place : ℕ) (c : Crop) (after : List ℕ) : Type 0 where
   pub reference : ℕ
   pub figure : ℕ
-  pub own : take 9 (drop place after) ≡ dated 3 (x .year) (x .d) reference
+  pub own : take 9 (drop place after) ≡ dated (kindOf (withMark x reference)) (x .year) (x .d) reference
   pub behind : take 9 (drop (place + 9) after) ≡ lettered 7 (c .code) ++ four figure
   pub defined : figure ≡ cropFigure c (x .d) reference
   pub twice : figure ≤ 2 * reference
-  pub within : CropWithinBound st x earlier c figure
-  pub sharper : CropWithin provedCropBound st x earlier c figure
+  pub within : CropWithinBound st (asJudged x) earlier c figure
+  pub sharper : CropWithin provedCropBound st (asJudged x) earlier c figure
 
 -- what is owed for a log: `buffer` is the answer buffer as it was lent, `after` as it is left
 unfoldable pub CropFiguresOwed : List ℕ → List ℕ → List ℕ → Type 0

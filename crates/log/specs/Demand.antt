@@ -7,14 +7,14 @@ use Prim.Native.Nat.{ℕ}
 use lib.Dec.{T, leb}
 use lib.ListN.{length, take, drop}
 use Rattle.day.specs.Bound.{WithinBound, JudgesWithinBound}
-use Rattle.day.specs.Judgement.{holds}
+use Rattle.day.specs.Judgement.{holds, asJudged, withMark}
 use Rattle.day.specs.Rules.{numberOf}
 use Rattle.day.specs.declared.Day.{Day}
 use Rattle.day.specs.declared.Earlier.{Earlier}
 use Rattle.day.specs.declared.Refusal.{Refusal}
 use Rattle.day.specs.declared.Station.{Station}
 use Rattle.day.specs.declared.Verdict.{Verdict}
-use Rattle.answers.specs.Answers.{dated}
+use Rattle.answers.specs.Answers.{kindOf, dated}
 use Rattle.log.specs.Days.{DayAt}
 use Rattle.log.specs.Log.{outcomeOf}
 use Rattle.log.specs.declared.Outcome.the-variants.{Written}
@@ -24,15 +24,16 @@ unfoldable pub AnsweredLog : List ℕ → List ℕ → Type 0
 AnsweredLog s buffer = (n : ℕ) × (outcomeOf s (length buffer) ≡ Written n)
 
 -- "none of 6 to 11 holds of the day": record i of the log is the day x of a block of `st`, its date is good, its earlier means are those that
--- the block's records give, and none of 7 to 11 holds. Its answer is due at `place`.
+-- the block's records give, and none of 7 to 11 holds of it as it is judged. Its answer is due at `place`.
 pub record AnsweredDay (s : List ℕ) (i : ℕ) (st : Station) (x : Day) (earlier : Earlier) (place : ℕ) : Type 0 where
   pub at : DayAt s i st x earlier true place
-  pub others : (r : Refusal) → T (leb 7 (numberOf r)) → holds r st x earlier ≡ false
+  pub others : (r : Refusal) → T (leb 7 (numberOf r)) → holds r st (asJudged x) earlier ≡ false
 
--- In the buffer at exit the nine bytes at the day's own place are an answer of kind 3 with its year and `d`, and a figure within the bound.
+-- In the buffer at exit the nine bytes at the day's own place are an answer of kind 3, or of kind 9 where the minimum stands for its dew point, with its
+-- year and `d`, and a figure within the bound. The equation is fed the day as it is judged.
 unfoldable pub FigureAt : Station → Day → Earlier → ℕ → List ℕ → Type 0
 FigureAt st x earlier place after =
-    (n : ℕ) × (take 9 (drop place after) ≡ dated 3 (x .year) (x .d) n) × WithinBound st x earlier n
+    (n : ℕ) × (take 9 (drop place after) ≡ dated (kindOf (withMark x n)) (x .year) (x .d) n) × WithinBound st (asJudged x) earlier n
 
 -- what is owed for a log: `buffer` is the answer buffer as it was lent, `after` as it is left
 unfoldable pub FiguresOwed : List ℕ → List ℕ → List ℕ → Type 0

@@ -1,4 +1,4 @@
--- How long a report can be: no day's line is longer than 21 bytes (`line-most`), no crop's than 13 (`crop-most`), and no report than 130,984
+-- How long a report can be: no day's line is longer than 23 bytes (`line-most`), no crop's than 13 (`crop-most`), and no report than 138,688
 -- (`report-most`). The theorem is `long-enough`. Assumes nothing.
 use mathlib.Core.Path.{_≡_, refl, ap}
 use mathlib.Core.Bool.{Bool, true, false, not, cond}
@@ -20,7 +20,8 @@ use Rattle.day.specs.declared.Refusal.{Refusal}
 use Rattle.day.specs.declared.Refusal.the-variants.{BadDate}
 use Rattle.day.specs.declared.Station.{Station}
 use Rattle.day.specs.declared.Verdict.{Verdict}
-use Rattle.day.specs.declared.Verdict.the-variants.{Figure, Refused}
+use Rattle.day.specs.declared.Verdict.the-variants.{Figure, Refused, Estimated}
+use Rattle.day.specs.Bound.{FigureAtMost}
 use Rattle.day.proofs.FigureLimit.{mostFigure, figure-most}
 use Rattle.day.proofs.Passed.{day-high}
 use Rattle.records.specs.Bytes.{wordAt}
@@ -28,7 +29,7 @@ use Rattle.records.specs.Record.{dayAt}
 use Rattle.records.proofs.Choice.{by-cond}
 use Rattle.answers.specs.Answers.{bytesOf}
 use Rattle.log.specs.History.{goodDate, earlierMeans, verdictOf}
-use Rattle.log.specs.Log.{Planted, bare, planted, Entry, station, day, crop, cropAnswers, longest, longestAnswers, answersTo, answersOf, readingOf, entriesOf, outcomeOf, settled}
+use Rattle.log.specs.Log.{Planted, bare, planted, Entry, station, day, crop, cropAnswer, cropAnswers, longest, longestAnswers, answersTo, answersOf, readingOf, entriesOf, outcomeOf, settled}
 use Rattle.log.specs.declared.Outcome.{Outcome}
 use Rattle.log.specs.declared.Outcome.the-variants as outcome
 use Rattle.log.proofs.Calendar.{date-tells}
@@ -43,11 +44,11 @@ use Rattle.lines.specs.Text.{header, verdictText, dayLine, cropLine}
 use Rattle.text.specs.declared.walk.Open.{Open}
 use Rattle.text.specs.declared.walk.Open.the-variants.{NoBlock, In}
 use Rattle.lines.proofs.Digits.{padded-most, inches-most}
-use Rattle.lines.proofs.Lengths.{refusal-most, day-line-size, crop-line-size, refused-line-most}
+use Rattle.lines.proofs.Lengths.{refusal-most, estimate-size, day-line-size, crop-line-size, refused-line-most}
 
 -- the header, and the most bytes that the lines can have
 abbrev pub longestReport : ℕ
-longestReport = 130984
+longestReport = 138688
 
 module _ (s : List ℕ) (bytes : AreBytes s) where
   -- ---- a day's line
@@ -62,7 +63,7 @@ module _ (s : List ℕ) (bytes : AreBytes s) where
 
   module _ (code : Code) (x : Station) (h : List Day) (y : Day) (sound : Sound s x) (found : (i : ℕ) × (y ≡ dayAt s i)) where
     -- a refusal has two digits at most, and each number of the date five
-    refused-most : (r : Refusal) → length (dayLine code (y .year) (y .d) (Refused r)) ≤ 21
+    refused-most : (r : Refusal) → length (dayLine code (y .year) (y .d) (Refused r)) ≤ 23
     refused-most r =
         omega (
           arith,
@@ -72,38 +73,34 @@ module _ (s : List ℕ) (bytes : AreBytes s) where
           refusal-most r,
         )
 
-    -- a figure has six, and the date is one of the calendar
-    figure-line-most : isDate (y .year) (y .d) ≡ true → (n : ℕ) → judged x y (earlierMeans h y) ≡ Figure n
-        → length (dayLine code (y .year) (y .d) (Figure n)) ≤ 21
-    unfolding holds verdictText
-    figure-line-most date n told =
+    -- a figure has six, the mark two more, and the date is one of the calendar
+    dated-line-most : isDate (y .year) (y .d) ≡ true → (v : Verdict) → length (verdictText v) ≤ 8 → length (dayLine code (y .year) (y .d) v) ≤ 23
+    unfolding holds
+    dated-line-most date v short =
         omega (
           arith,
-          day-line-size code (y .year) (y .d) (Figure n),
+          day-line-size code (y .year) (y .d) v,
           padded-most 3 4 (y .year) (omega arith) (omega (arith, date-tells (y .year) (y .d) date .last-year)),
           padded-most 2 3 (y .d) (omega arith) (omega (arith, day-high x y (earlierMeans h y) (ap not date))),
-          inches-most 0 n (omega (arith, figure-most x y (earlierMeans h y) (station-constants sound) told)),
         )
 
     abbrev Fits : Verdict → Type 0
-    Fits v = length (dayLine code (y .year) (y .d) v) ≤ 21
+    Fits v = length (dayLine code (y .year) (y .d) v) ≤ 23
 
     line-most : Fits (verdictOf x h y)
-    unfolding verdictOf
+    unfolding verdictOf verdictText
     line-most =
-        by-cond Fits (goodDate h y) (λ good. by (judged x y (earlierMeans h y)) refl (good-date h y good)) (λ bad. refused-most BadDate)
+        by-cond Fits (goodDate h y) (λ good. by (judged x y (earlierMeans h y)) (figure-most x y (earlierMeans h y) (station-constants sound)) (good-date h y good)) (λ bad. refused-most BadDate)
       where
-        by : (v : Verdict) → judged x y (earlierMeans h y) ≡ v → isDate (y .year) (y .d) ≡ true → Fits v
-        by (Figure n) e date = figure-line-most date n e
-        by (Refused r) e date = refused-most r
+        by : (v : Verdict) → FigureAtMost mostFigure v → isDate (y .year) (y .d) ≡ true → Fits v
+        by (Figure n) small date = dated-line-most date (Figure n) (omega (arith, inches-most 0 n (omega arith)))
+        by (Refused r) small date = refused-most r
+        by (Estimated n) small date = dated-line-most date (Estimated n) (omega (arith, estimate-size n, inches-most 0 n (omega arith)))
 
-    figure-small : (n : ℕ) → verdictOf x h y ≡ Figure n → n ≤ mostFigure
+    figure-small : FigureAtMost mostFigure (verdictOf x h y)
     unfolding verdictOf
-    figure-small n e = by (goodDate h y) e
-      where
-        by : (b : Bool) → cond b (judged x y (earlierMeans h y)) (Refused BadDate) ≡ Figure n → n ≤ mostFigure
-        by true told = figure-most x y (earlierMeans h y) (station-constants sound) told
-        by false told = let z : _≡_ {A = ℕ} 0 1 = cc in absurd (omega arith)
+    figure-small =
+        by-cond (FigureAtMost mostFigure) (goodDate h y) (λ good. figure-most x y (earlierMeans h y) (station-constants sound)) (λ bad. tt)
 
   -- ---- a crop's line: two digits before the point at most
 
@@ -118,17 +115,21 @@ module _ (s : List ℕ) (bytes : AreBytes s) where
     abbrev Few : List Answer → Type 0
     Few l = length (linesFrom block (l ++ rest)) ≤ 13 * length l + length (linesFrom block rest)
 
-    crops-most : (pl : Planted) (y : Day) (v : Verdict) → PlantedSound pl → ((n : ℕ) → v ≡ Figure n → n ≤ mostFigure) → Few (cropAnswers pl y v)
+    crop-few : (c : Crop) (y : Day) → badCrop c ≡ false → {n : ℕ} → n ≤ mostFigure → Few (cropAnswer c y n)
+    crop-few c y sound {n} small =
+        by-cond Few (inSeason c (y .year) (y .d))
+        (λ e. omega (arith, crop-most c y sound small, length-append (cropLine (c .code) (cropFigure c (y .d) n)) (linesFrom block rest)))
+        (λ e. omega arith)
+
+    crops-most : (pl : Planted) (y : Day) (v : Verdict) → PlantedSound pl → FigureAtMost mostFigure v → Few (cropAnswers pl y v)
     crops-most bare y v sound small = omega arith
     crops-most (planted c) y (Refused r) sound small = omega arith
-    crops-most (planted c) y (Figure n) sound small =
-        by-cond Few (inSeason c (y .year) (y .d))
-        (λ e. omega (arith, crop-most c y sound (small n refl), length-append (cropLine (c .code) (cropFigure c (y .d) n)) (linesFrom block rest)))
-        (λ e. omega arith)
+    crops-most (planted c) y (Figure n) sound small = crop-few c y sound small
+    crops-most (planted c) y (Estimated n) sound small = crop-few c y sound small
 
   -- ---- the report
 
-  lines-most : (es : List Entry) → SoundEntries s es → (block : Open) → length (linesFrom block (answersOf es)) ≤ 21 * daysOf es + 13 * figuresOf es
+  lines-most : (es : List Entry) → SoundEntries s es → (block : Open) → length (linesFrom block (answersOf es)) ≤ 23 * daysOf es + 13 * figuresOf es
   lines-most [] f block = omega arith
   lines-most (station x ∷ es) f block = lines-most es (f .1) (In (x .code))
   lines-most (crop b c ∷ es) f block = lines-most es (f .1) block

@@ -26,7 +26,7 @@ pub enum Printed {
 // No log has longer answers, and none a longer report, than one station, one crop and 3,852 answered days with a crop figure each would have.
 pub const LONGEST_ANSWERS: usize = 69_341;
 
-pub const LONGEST_REPORT: usize = 130_984;
+pub const LONGEST_REPORT: usize = 138_688;
 
 // A refused log's line.
 fn print_refused(number: u8, value: usize, text: &mut [u8]) -> Printed

@@ -62,10 +62,15 @@ returns-2 c =
     judged-said (why .before .before) _
     (c .packed2 .ensures ∙ ap (λ (k : ℕ). said k 0) (c .before .number .ensures) ∙ refusal-said (why .why .given .0 .0) ∙ ap verdictSaid (sym (why .why .given .1)))
 
+returns-3 : tie.Need-returns-3
+returns-3 c =
+    let figure = c .before .before in
+    judged-said (figure .before .before) _ (c .packed3 .ensures ∙ ap verdictSaid (sym (figure .n2 .given .1)))
+
 pub fuortwem-judge-spec : {M : Type 1} → statement M
 fuortwem-judge-spec =
     tie.close
     (tie.spec
     (λ c κs. search needs) (λ c κs. search needs) (λ c κs. search needs) (λ c κs. search needs) (λ c. search needs)
-    (λ c κs. search needs) (λ c. search needs) (λ c κs. search needs) (λ c κs. search needs)
-    returns returns-2)
+    (λ c κs. search needs) (λ c. search needs) (λ c κs. search needs) (λ c κs. search needs) (λ c. search needs) (λ c κs. search needs)
+    returns returns-2 returns-3)

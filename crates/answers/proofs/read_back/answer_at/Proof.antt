@@ -4,7 +4,7 @@ use native.Mathlib.Omega.{arith}
 use lib.ListN.{length}
 use denote.Ref.{now}
 use borrow.Author.Needs.{needs}
-use Rattle.answers.proofs.ReadBack.{five-there, nine-there, is-station, is-crop, is-figure, is-refusal}
+use Rattle.answers.proofs.ReadBack.{five-there, nine-there, is-station, is-crop, is-figure, is-estimate, is-refusal}
 use Rattle.answers.proofs.read_back.answer_at.Statement.{statement}
 use Rattle.answers.proofs.read_back.answer_at.Tie as tie
 
@@ -30,8 +30,15 @@ returns-4 : tie.Need-returns-4
 returns-4 c =
     let other = c .before .before .before .before in
     let read = other .before in
-    is-refusal (read .before .if1 .left) (other .if2 .left) (c .before .before .before .word .ensures) (c .before .before .word2 .ensures) (read .four-at .ensures)
-    (c .before .if3 .left) (c .refusal-of .ensures)
+    is-estimate (read .before .if1 .left) (other .if2 .left) (c .before .before .before .word .ensures) (c .before .before .word2 .ensures) (read .four-at .ensures)
+    (c .if4 .taken)
+
+returns-5 : tie.Need-returns-5
+returns-5 c =
+    let other = c .before .before .before .before .before in
+    let read = other .before in
+    is-refusal (read .before .if1 .left) (other .if2 .left) (c .before .before .before .before .word .ensures) (c .before .before .before .word2 .ensures)
+    (read .four-at .ensures) (c .before .before .if3 .left) (c .before .if4 .left) (c .refusal-of .ensures)
 
 pub answer-at-spec : {M : Type 1} → statement M
 answer-at-spec =
@@ -40,4 +47,4 @@ answer-at-spec =
     (λ c. omega (arith, five (c .before .before))) (λ c. omega (arith, five (c .before .before .before))) (λ c κs. omega (arith, five (c .before .before .before)))
     returns (λ c. omega (arith, nine c)) (λ c κs. omega (arith, nine c)) (λ c. omega (arith, nine (c .before .before))) (λ c κs. omega (arith, nine (c .before .before))) returns-2
     (λ c. omega (arith, nine (c .before .before))) (λ c κs. omega (arith, nine (c .before .before))) (λ c. omega (arith, nine (c .before .before .before)))
-    (λ c κs. omega (arith, nine (c .before .before .before))) returns-3 (λ c κs. search needs) returns-4)
+    (λ c κs. omega (arith, nine (c .before .before .before))) returns-3 returns-4 (λ c κs. search needs) returns-5)

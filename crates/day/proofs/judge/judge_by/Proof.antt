@@ -2,11 +2,11 @@
 use mathlib.Core.Path.{_≡_, sym, _∙_, ap, subst}
 use native.Mathlib.Omega.{arith}
 use borrow.Author.Needs.{needs}
-use Rattle.day.specs.Judgement.{figureOf, verdictWith, judged}
+use Rattle.day.specs.Judgement.{figureOf, standingOf, asJudged, withMark, verdictWith, judged}
 use Rattle.day.specs.Bound.{SignedConstants, FigureOwed, FigureInRange, JudgesWithinBound}
+use Rattle.day.specs.declared.Day.{Day}
 use Rattle.day.specs.declared.Standing.{Standing}
 use Rattle.day.specs.declared.Verdict.{Verdict}
-use Rattle.day.specs.declared.Verdict.the-variants.{Figure}
 use Rattle.day.proofs.Tests.{in-word}
 use Rattle.day.proofs.Standings.{stands-answered}
 use Rattle.day.proofs.DayBound.{judged-within-bound}
@@ -33,34 +33,46 @@ all-owed c {v} e = (
   e,
   (
     subst (FigureOwed (c .args .station) (c .args .day) (c .args .earlier)) (sym e) (judged-within-bound (c .args .station) (c .args .day) (c .args .earlier) (constants c)),
-    figure-in-range (c .args .station) (c .args .day) (c .args .earlier) (constants c) v (sym e),
+    subst FigureInRange (sym e) (figure-in-range (c .args .station) (c .args .day) (c .args .earlier) (constants c)),
   ),
 )
+
+-- what the day as it is judged is told, the day itself is told
+standing-told : (c : tie.After-standing) → c .standing .result ≡ standingOf (c .before .before .args .station) (asJudged (c .before .before .args .day)) (c .before .before .args .earlier)
+standing-told c = let s = c .before .before in c .standing .ensures ∙ ap (λ (y : Day). standingOf (s .args .station) y (s .args .earlier)) (c .before .as-judged .ensures)
 
 figure-requires : tie.Need-figure-requires
 figure-requires c κs =
     let stood = c .before .before in
-    let s = stood .before in
-    (s .pre, stands-answered (s .args .station) (s .args .day) (s .args .earlier) (sym (stood .standing .ensures) ∙ c .enum-told .given .1))
+    let x = stood .before in
+    let s = x .before in
+    (s .pre, stands-answered (s .args .station) (x .as-judged .result) (s .args .earlier) (sym (stood .standing .ensures) ∙ c .enum-told .given .1))
 
 returns : tie.Need-returns
 unfolding judged
 returns c =
     let why = c .before in
     let stood = why .before .before in
-    let s = stood .before in
+    let s = stood .before .before in
     all-owed s
-    (ap (λ (x : Standing). verdictWith x (figureOf (s .args .station) (s .args .day) (s .args .earlier))) (sym (why .why .given .1) ∙ stood .standing .ensures))
+    (ap (λ (x : Standing). verdictWith x (withMark (s .args .day) (figureOf (s .args .station) (asJudged (s .args .day)) (s .args .earlier))))
+    (sym (why .why .given .1) ∙ standing-told stood))
 
 returns-2 : tie.Need-returns-2
 unfolding judged
 returns-2 c =
-    let told = c .before in
+    let told = c .before .before in
     let stood = told .before .before in
-    let s = stood .before in
+    let x = stood .before in
+    let s = x .before in
     all-owed s
-    (ap Figure (c .figure .ensures)
-    ∙ ap (λ (x : Standing). verdictWith x (figureOf (s .args .station) (s .args .day) (s .args .earlier))) (sym (told .enum-told .given .1) ∙ stood .standing .ensures))
+    (c .with-mark .ensures
+    ∙ ap (withMark (s .args .day))
+    (c .before .figure .ensures ∙ ap (λ (y : Day). figureOf (s .args .station) y (s .args .earlier)) (x .as-judged .ensures))
+    ∙ ap (λ (x : Standing). verdictWith x (withMark (s .args .day) (figureOf (s .args .station) (asJudged (s .args .day)) (s .args .earlier))))
+    (sym (told .enum-told .given .1) ∙ standing-told stood))
 
 pub judge-by-spec : {M : Type 1} → statement M
-judge-by-spec = tie.close (tie.spec (λ c κs. search needs) (λ c. search needs) (λ c. search needs) figure-requires returns returns-2)
+judge-by-spec =
+    tie.close
+    (tie.spec (λ c κs. search needs) (λ c κs. search needs) (λ c. search needs) (λ c. search needs) figure-requires (λ c κs. search needs) returns returns-2)
