@@ -25,7 +25,7 @@ def crop(code, year, start, full, percentages):
     return bytes([6]) + code + struct.pack(">HHH11B", year, start, full, *percentages)
 
 
-def season(year, first, last, warmth, calmest=600):
+def season(year, first, last, warmth, calmest=600, no_dew_point=()):
     """Plain weather: warmest and brightest at day 200, a little different from day to day."""
     for d in range(first, last + 1):
         off = abs(d - 200)
@@ -33,7 +33,7 @@ def season(year, first, last, warmth, calmest=600):
         maximum = 920 + warmth - 3 * off + turn
         minimum = maximum - 330 + turn // 2
         mean = (maximum + minimum) // 2
-        dewpoint = minimum - 40
+        dewpoint = MISSING if d in no_dew_point else minimum - 40
         radiation = 7000 - 25 * off - 20 * turn
         wind = calmest + 12 * turn
         yield day(year, d, maximum, minimum, mean, dewpoint, radiation, wind)
@@ -57,3 +57,10 @@ write("cut_off.log", b"".join(worked)[:-3])
 windy = list(season(2008, 180, 189, 0, calmest=900))
 fields = LIDW[1:]
 write("wind_limit.log", limited_station(b"UTAH", *fields, 1000), *windy, station(b"KIMB", *fields), *windy)
+
+# The dew point alone is missing on day 139, before the crop's start, and on three days of its season; on day 145 the wind is
+# missing too, and on day 146 the minimum is above the mean.
+partly = season(2008, 139, 144, 0, no_dew_point=(139, 141, 142, 144))
+windless = day(2008, 145, 774, 456, 615, MISSING, 5200, MISSING)
+disordered = day(2008, 146, 774, 616, 615, MISSING, 5200, 700)
+write("no_dew_point.log", station(*LIDW), crop(*BEAN), *partly, windless, disordered, *season(2008, 147, 147, 0))

@@ -26,13 +26,15 @@ enum {
     LOG_ROOM = LONGEST_LOG + 2 * PAGE,
     ANSWER_ROOM = 32 * PAGE,
     /* No report is longer. */
-    REPORT_LIMIT = 130984,
+    REPORT_LIMIT = 138688,
     /* Room for every report, and for some bytes more. */
-    TEXT_ROOM = 33 * PAGE,
+    TEXT_ROOM = 35 * PAGE,
     STATION_LENGTH = 19,
     LIMITED_STATION_LENGTH = 21,
     DAY_LENGTH = 17,
     CROP_LENGTH = 22,
+    /* Where a day record has its dew point. */
+    DEW_POINT = 11,
     STATION_ANSWER_LENGTH = 5,
     /* A day's answer and a crop's. */
     FIGURE_ANSWER_LENGTH = 9,
@@ -44,6 +46,8 @@ enum {
     BAD_STATION = 3,
     TOO_SHORT_A_BUFFER = 12,
     BAD_CROP = 13,
+    /* In place of a refusal, the mark of a day without a dew point that has a figure. */
+    ESTIMATED = 256,
     INPUTS_A_PROCESS = 2000,
     /* The two descriptors on which AFL++ speaks to a fork server. */
     CONTROL = 198,
@@ -110,29 +114,60 @@ static bool station_in_range(const uint8_t *station) {
            limit <= ROUTINE_LIMIT;
 }
 
-/* The day handed in alone, with this limit and this wind run. */
-static uint64_t judge(const uint8_t *station, uint16_t limit, const uint8_t *day, int16_t wind) {
+/* Whether a reading of this day other than the dew point is missing. */
+static bool other_reading_missing(const uint8_t *day) {
+    bool missing = false;
+    for (int at = 5; at < DAY_LENGTH; at += 2) {
+        missing = missing || (at != DEW_POINT && tenths(day + at) == FUORTWEM_MISSING);
+    }
+    return missing;
+}
+
+static bool dew_point_alone_missing(const uint8_t *day) {
+    return tenths(day + DEW_POINT) == FUORTWEM_MISSING && !other_reading_missing(day);
+}
+
+/* The day handed in alone, with this limit, this dew point and this wind run. */
+static uint64_t judge(const uint8_t *station, uint16_t limit, const uint8_t *day, int16_t dewpoint, int16_t wind) {
     const uint8_t *s = station + 1, *d = day + 1;
     return fuortwem_judge(
         s[0], s[1], s[2], s[3], tenths(s + 4), tenths(s + 6), tenths(s + 8), tenths(s + 10), tenths(s + 12), plain(s + 14),
-        plain(s + 16), limit, plain(d), plain(d + 2), tenths(d + 4), tenths(d + 6), tenths(d + 8), tenths(d + 10),
-        tenths(d + 12), wind, 0, 0, 0, 0, 0, 0);
+        plain(s + 16), limit, plain(d), plain(d + 2), tenths(d + 4), tenths(d + 6), tenths(d + 8), dewpoint, tenths(d + 12),
+        wind, 0, 0, 0, 0, 0, 0);
 }
 
 /* The first day of a block has no earlier means and no earlier date: handed in alone it must be answered the same. */
 static void judge_first_day(const uint8_t *station, const uint8_t *day, const uint8_t *answer) {
     const uint8_t *d = day + 1;
     uint16_t limit = wind_limit(station);
-    int16_t wind = tenths(d + 14);
-    uint64_t returned = judge(station, limit, day, wind);
+    int16_t minimum = tenths(d + 6), dewpoint = tenths(day + DEW_POINT), wind = tenths(d + 14);
+    uint64_t returned = judge(station, limit, day, dewpoint, wind);
     if (wind > limit && wind <= HIGHEST_WIND) {
-        uint64_t at_limit = judge(station, ROUTINE_LIMIT, day, (int16_t)limit);
+        uint64_t at_limit = judge(station, ROUTINE_LIMIT, day, dewpoint, (int16_t)limit);
         require(returned == at_limit, "a wind run above the limit counts as the limit");
     }
-    uint32_t kind = refusal(returned) == 0 ? 3 : 4;
-    uint32_t verdict = refusal(returned) == 0 ? value(returned) : refusal(returned);
+    if (dew_point_alone_missing(day)) {
+        uint64_t substituted = judge(station, limit, day, minimum, wind);
+        uint64_t mark = refusal(substituted) == 0 ? (uint64_t)ESTIMATED << 32 : 0;
+        require(returned == (substituted | mark), "the minimum takes the place of a dew point that alone is missing");
+    }
+    bool estimated = refusal(returned) == ESTIMATED, answered = estimated || refusal(returned) == 0;
+    uint32_t kind = estimated ? 9 : answered ? 3 : 4;
+    uint32_t verdict = answered ? value(returned) : refusal(returned);
     require(answer[0] == kind && memcmp(answer + 1, d, 4) == 0, "a day's answer begins with its kind and date");
     require(number(answer + 5, 4) == verdict, "a block's first day is answered as when handed in alone");
+}
+
+/* Which days have a figure with the mark, which without, and which have none. */
+static void check_kind(const uint8_t *day, const uint8_t *answer) {
+    uint8_t answered = dew_point_alone_missing(day) ? 9 : 3;
+    require(answer[0] == 4 || answer[0] == answered, "9 is for a day with the dew point alone missing, 3 for any other");
+    if (other_reading_missing(day)) {
+        uint32_t verdict = number(answer + 5, 4);
+        require(answer[0] == 4 && (verdict == 6 || verdict == 7), "a day with another reading missing is refused with 6 or 7");
+    } else {
+        require(answer[0] != 4 || number(answer + 5, 4) != 7, "7 is for a day with another reading missing");
+    }
 }
 
 /* A crop record, taken apart. */
@@ -157,7 +192,7 @@ static bool crop_in_range(struct crop crop) {
 /* The crop's answer after that of a day, if the day has one; returns its length. */
 static size_t check_crop_answer(struct crop crop, const uint8_t *day, const uint8_t *answer) {
     uint16_t d = plain(day + 3);
-    if (answer[0] != 3 || plain(day + 1) != crop.year || d < crop.start || d > crop.full) {
+    if (answer[0] == 4 || plain(day + 1) != crop.year || d < crop.start || d > crop.full) {
         return 0;
     }
     uint64_t length = crop.full - crop.start, tens = 10 * (d - crop.start);
@@ -193,6 +228,7 @@ static void check_answers(const uint8_t *log, size_t log_length, const uint8_t *
                 judge_first_day(station, log, answer);
             }
             first = false;
+            check_kind(log, answer);
             size_t after = crop == NULL ? 0 : check_crop_answer(crop_of(crop), log, answer);
             log += DAY_LENGTH;
             answer += FIGURE_ANSWER_LENGTH + after;
@@ -238,7 +274,8 @@ static uint64_t run(const uint8_t *log, size_t log_length, struct buffer answers
     return returned;
 }
 
-/* The text is the line of a refused log, or the header and a line for each answer but a station's. */
+/* The text is the line of a refused log, or the header and a line for each answer but a station's; those of kind 9 end in a
+ * space and an E. */
 static void check_text(const uint8_t *text, size_t length, uint64_t read, const uint8_t *answers) {
     static const char header[] = "STN YEAR DAY ET\n";
     if (refusal(read) != 0) {
@@ -247,16 +284,19 @@ static void check_text(const uint8_t *text, size_t length, uint64_t read, const 
         require(length == (size_t)expected && memcmp(text, line, length) == 0, "a refused log's report is its one line");
         return;
     }
-    size_t lines = 1, ended = 0;
+    size_t lines = 1, ended = 0, estimated = 0, marked = 0;
     for (const uint8_t *answer = answers; answer < answers + value(read);) {
         lines += answer[0] != 5;
+        estimated += answer[0] == 9;
         answer += answer[0] == 5 ? STATION_ANSWER_LENGTH : FIGURE_ANSWER_LENGTH;
     }
     for (size_t i = 0; i < length; i++) {
         ended += text[i] == '\n';
+        marked += i >= 2 && memcmp(text + i - 2, " E\n", 3) == 0;
     }
     require(length >= sizeof header - 1 && memcmp(text, header, sizeof header - 1) == 0, "a report begins with the header");
     require(text[length - 1] == '\n' && ended == lines, "a report has a line for each figure and refusal");
+    require(marked == estimated, "a report has an E for each estimated day");
 }
 
 /* One report, for a log that was just read into `answers` with the result `read`. Returns what the library returned. */
@@ -353,7 +393,7 @@ static void try_input(const uint8_t *input, size_t size, bool in_heap) {
 
     uint64_t too_short = report(last_log, log_length, last, expected, placed(text_region, 0, true), 2);
     size_t text_needed = value(too_short);
-    require(refusal(too_short) == TOO_SHORT_A_BUFFER && text_needed <= REPORT_LIMIT, "a report has 1 to 130,984 bytes");
+    require(refusal(too_short) == TOO_SHORT_A_BUFFER && text_needed <= REPORT_LIMIT, "a report has 1 to 138,688 bytes");
     returned = report(last_log, log_length, last, expected, placed(text_region, text_needed - 1, true), 3);
     require(returned == too_short, "one byte less than a report needs is too short");
     struct buffer text = placed(text_region, text_needed, true);

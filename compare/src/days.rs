@@ -1,7 +1,7 @@
 //! The days and logs to compare on, from a seeded generator: the same seed gives the same days everywhere.
 use crate::second::judge;
 use crate::second::sheet::clear_day;
-use crate::{Crop, Day, Earlier, Station, Verdict, ROUTINE_LIMIT};
+use crate::{Crop, Day, Earlier, Station, Verdict, MISSING, ROUTINE_LIMIT};
 use std::collections::BTreeSet;
 use std::ops::RangeInclusive;
 
@@ -90,8 +90,12 @@ const fn coefficient(set: fn(&mut Case, i64)) -> Field<Case> {
     field(set, -32_768, 32_767, &[-1, 0, 1])
 }
 
+const LOWEST_TEMPERATURE: i16 = -94;
+const HIGHEST_TEMPERATURE: i16 = 1_291;
+
 const fn temperature(set: fn(&mut Case, i64)) -> Field<Case> {
-    field(set, -94, 1_291, &[-32_768, -32_767, 32_767, -160, 320])
+    let (low, high) = (LOWEST_TEMPERATURE as i64, HIGHEST_TEMPERATURE as i64);
+    field(set, low, high, &[-32_768, -32_767, 32_767, -160, 320])
 }
 
 /// No limit is below; the routine's is the highest.
@@ -177,6 +181,18 @@ const FIELDS: [Field<Case>; 26] = [
     temperature(|case, value| case.earlier[1] = Some(value as i16)),
     temperature(|case, value| case.earlier[2] = Some(value as i16)),
     temperature(|case, value| case.earlier = [Some(value as i16); 3]),
+];
+
+/// A place for one of a day's readings.
+type Reading = fn(&mut Day) -> &mut i16;
+
+/// All but the dew point.
+const OTHER_READINGS: [Reading; 5] = [
+    |day| &mut day.maximum,
+    |day| &mut day.minimum,
+    |day| &mut day.mean,
+    |day| &mut day.radiation,
+    |day| &mut day.wind,
 ];
 
 const fn percentage<const STAGE: usize>() -> Field<Crop> {
@@ -377,6 +393,21 @@ fn to_order_border(random: &mut Random, case: &mut Case) {
     case.day.dewpoint = near();
 }
 
+pub fn without_dew_point(day: Day) -> Day {
+    Day {
+        dewpoint: MISSING,
+        ..day
+    }
+}
+
+/// The dew point missing, mostly alone.
+fn lose_dew_point(random: &mut Random, day: &mut Day) {
+    *day = without_dew_point(*day);
+    if random.one_in(8) {
+        *random.pick(&OTHER_READINGS)(day) = MISSING;
+    }
+}
+
 /// Clear-day radiation of a whole number of calories C and radiation of just 0.7, 1 or 2 times C, or beside it.
 fn to_exact_ratio(random: &mut Random, case: &mut Case) {
     let (tenths, most) = random.pick(&[(7, 1_700), (10, 1_199), (20, 599)]);
@@ -439,6 +470,9 @@ fn case_of(random: &mut Random, station: Station, date: (u16, u16)) -> Case {
         1..=3 => to_corners(random, &mut case),
         _ => {}
     }
+    if random.one_in(6) {
+        lose_dew_point(random, &mut case.day);
+    }
     case
 }
 
@@ -485,18 +519,68 @@ pub fn halves() -> [Case; 2] {
     ]
 }
 
-/// Every value of every field's range and one beyond, the other fields kept.
+/// Every value of every field's range and one beyond, the other fields kept; each day with its dew point and without.
 pub fn sweep(random: &mut Random) -> impl Iterator<Item = Case> {
     let station = station(random);
     let date = date(random);
     let kept = ordinary(random, station, date);
     FIELDS.iter().flat_map(move |field| {
-        field.values().map(move |value| {
+        field.values().flat_map(move |value| {
             let mut case = kept;
             (field.set)(&mut case, value);
-            case
+            let day = without_dew_point(case.day);
+            [case, Case { day, ..case }]
         })
     })
+}
+
+/// The edges of W4's rule. First a day with every set of its readings missing; then, without a dew point: the minimum and
+/// all temperatures at the ends of their range and beside them, the three temperatures within one tenth of each other, and
+/// radiation of twice clear-day and beside it.
+pub fn dew_point_edges(random: &mut Random) -> Vec<Case> {
+    let clear = random.between(200, 599) as i16;
+    let station = Station {
+        c: [clear, 0, 0, 0, 0],
+        ..station(random)
+    };
+    let Case { day, earlier, .. } = ordinary(random, station, (2_008, 181));
+    let mut days = Vec::new();
+    for set in 0..1 << OTHER_READINGS.len() {
+        let mut day = day;
+        for (place, reading) in OTHER_READINGS.iter().enumerate() {
+            if set >> place & 1 == 1 {
+                *reading(&mut day) = MISSING;
+            }
+        }
+        days.extend([day, without_dew_point(day)]);
+    }
+    let kept = without_dew_point(day);
+    let with = |[minimum, mean, maximum]: [i16; 3]| Day {
+        maximum,
+        minimum,
+        mean,
+        ..kept
+    };
+    for end in [LOWEST_TEMPERATURE, HIGHEST_TEMPERATURE] {
+        for f in end - 1..=end + 1 {
+            days.extend([[f, day.mean, day.maximum], [f, end, end], [f; 3]].map(with));
+        }
+    }
+    for below in -1..=1 {
+        for above in -1..=1 {
+            days.push(with([day.mean + below, day.mean, day.mean + above]));
+        }
+    }
+    for above in -1..=1 {
+        let radiation = 20 * clear + above;
+        days.push(Day { radiation, ..kept });
+    }
+    let case = |day| Case {
+        station,
+        day,
+        earlier,
+    };
+    days.into_iter().map(case).collect()
 }
 
 /// Kind 1 for a station with the routine's limit, and kind 8 for one that has another.
@@ -649,7 +733,8 @@ fn answered(random: &mut Random, station: Station, date: (u16, u16)) -> Day {
 }
 
 /// One station of kind 1, and a crop for each year's days from 1 to 365: with eleven crops, 3,839 days fit, each with a
-/// figure and a crop figure. No log has longer answers; nor a longer report, as long as no crop figure has ten inches.
+/// figure, the mark of a day without a dew point, and a crop figure. No log has longer answers; nor a longer report, as long
+/// as no crop figure has ten inches.
 pub fn answered_log(random: &mut Random) -> Vec<u8> {
     let station = Station {
         wind_limit: ROUTINE_LIMIT,
@@ -666,7 +751,8 @@ pub fn answered_log(random: &mut Random) -> Vec<u8> {
                 ..crop(random, (year, d))
             }));
         }
-        log.extend(day_record(&answered(random, station, (year, d))));
+        let day = without_dew_point(answered(random, station, (year, d)));
+        log.extend(day_record(&day));
     }
     log
 }
@@ -681,7 +767,11 @@ fn log_about(random: &mut Random, station: Station, crop: &Crop) -> Vec<u8> {
     let mut log = station_record(&station);
     log.extend(crop_record(crop));
     for d in dates {
-        log.extend(day_record(&ordinary(random, station, (crop.year, d)).day));
+        let Case { mut day, .. } = ordinary(random, station, (crop.year, d));
+        if random.one_in(6) {
+            lose_dew_point(random, &mut day);
+        }
+        log.extend(day_record(&day));
     }
     log
 }
@@ -727,6 +817,31 @@ pub fn crop_edges(random: &mut Random) -> Vec<Vec<u8>> {
     logs
 }
 
+/// The record of a crop whose season has the days about the 180th of 2008.
+fn in_season(random: &mut Random) -> Vec<u8> {
+    let crop = Crop {
+        year: 2_008,
+        start: 100,
+        full: 300,
+        ..crop(random, (2_008, 180))
+    };
+    crop_record(&crop).to_vec()
+}
+
+/// Logs of one station, with a crop and without: each day of `dew_point_edges`, with a day before it and one after it that
+/// takes up its mean.
+pub fn dew_point_logs(random: &mut Random) -> Vec<Vec<u8>> {
+    let mut logs = Vec::new();
+    for Case { station, day, .. } in dew_point_edges(random) {
+        let [before, after] = [180, 182].map(|d| answered(random, station, (2_008, d)));
+        let days = [before, day, after].map(|day| day_record(&day)).concat();
+        let opening = station_record(&station);
+        logs.push([&opening[..], &days].concat());
+        logs.push([opening, in_season(random), days].concat());
+    }
+    logs
+}
+
 /// Logs of one station and days with wind runs below its limit, at it and above: each field of the station at its edges,
 /// and every limit of the range and one beyond each end. Each is of kind 8, and of kind 1 where the limit is the routine's;
 /// it stands alone, and behind a block with a crop and the lowest limit. And a record of kind 8 that is cut off before its
@@ -767,13 +882,7 @@ pub fn station_edges(random: &mut Random) -> Vec<Vec<u8>> {
         wind_limit: LOWEST_LIMIT,
         ..station
     };
-    let in_season = Crop {
-        year: 2_008,
-        start: 100,
-        full: 300,
-        ..crop(random, (2_008, 180))
-    };
-    let opening = [&station_record(&lowest)[..], &crop_record(&in_season)].concat();
+    let opening = [station_record(&lowest), in_season(random)].concat();
     let before = block(&lowest, &opening);
     let mut logs = [19, 20].map(|end| opening[..end].to_vec()).to_vec();
     for station in &stations {
@@ -795,13 +904,14 @@ pub fn damaged(random: &mut Random, mut log: Vec<u8>) -> Vec<u8> {
         }
         let at = random.below(log.len());
         let other = random.below(log.len());
-        match random.below(7) {
+        match random.below(8) {
             0 => log[at] ^= 1 << random.below(8),
             1 => log[at] = random.bits() as u8,
-            2 => log.insert(at, random.pick(&[0, 1, 2, 3, 6, 7, 8, 255])),
+            2 => log.insert(at, random.pick(&[0, 1, 2, 3, 6, 7, 8, 9, 255])),
             3 => drop(log.remove(at)),
             4 => log.swap(at, other),
             5 => log.truncate(at),
+            6 => fill(&mut log[at..], &[MISSING as u16]),
             _ => drop(log.drain(at.min(other)..at.max(other))),
         }
     }

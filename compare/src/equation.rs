@@ -1,5 +1,5 @@
-//! The unrounded equation of scope document 01, with the wind limits of W2, in double precision. It takes nothing from the
-//! step sheet.
+//! The unrounded equation of scope document 01, with the wind limits of W2 and W4's substitute for a missing dew point, in
+//! double precision. It takes nothing from the step sheet.
 use crate::{Day, Earlier, Station};
 
 fn fahrenheit(tenths: i16) -> f64 {
@@ -39,7 +39,7 @@ pub fn inches(station: &Station, day: &Day, earlier: &Earlier) -> f64 {
     let elevation = f64::from(station.elevation);
     let pressure = 101.3 * ((576_000.0 - 13.0 * elevation) / 576_000.0).powf(5.257);
 
-    let ea = vapour_pressure(day.dewpoint);
+    let ea = vapour_pressure(day.dewpoint_or_substitute());
     let delta = 0.2 * y(day.mean).powi(7) - 0.000116;
     let l = 2.501 - 0.002361 * celsius(day.mean);
     let gamma = 0.001005 * pressure / (0.622 * l);
@@ -79,6 +79,7 @@ pub fn inches(station: &Station, day: &Day, earlier: &Earlier) -> f64 {
 #[cfg(test)]
 mod tests {
     use super::inches;
+    use crate::{Day, MISSING};
 
     #[test]
     fn two_days_worked_with_fifty_digits() {
@@ -99,5 +100,20 @@ mod tests {
         assert_eq!(value(1_000, 1_001), value(1_500, 1_000));
         assert_eq!(value(1_000, 999), value(1_500, 999));
         assert!(value(1_001, 1_001) > value(1_000, 1_001));
+    }
+
+    #[test]
+    fn the_minimum_takes_the_place_of_a_missing_dew_point() {
+        for case in crate::days::halves() {
+            let with = |dewpoint| {
+                let day = Day {
+                    dewpoint,
+                    ..case.day
+                };
+                inches(&case.station, &day, &case.earlier)
+            };
+            assert_eq!(with(MISSING), with(case.day.minimum));
+            assert!(with(MISSING) < with(case.day.minimum - 1));
+        }
     }
 }

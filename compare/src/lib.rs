@@ -43,6 +43,19 @@ pub struct Day {
     pub wind: i16,
 }
 
+/// The mark of a reading that is missing.
+pub const MISSING: i16 = -32_768;
+
+impl Day {
+    /// What the equation is fed for an answered day's dew point: by W4 the minimum, where the dew point is missing.
+    pub fn dewpoint_or_substitute(&self) -> i16 {
+        match self.dewpoint {
+            MISSING => self.minimum,
+            dewpoint => dewpoint,
+        }
+    }
+}
+
 /// A crop: its letters, its year, its start day S and full day F, and the percentages of stages 0 to 10.
 #[derive(Clone, Copy, Debug, PartialEq, Eq)]
 pub struct Crop {
@@ -56,11 +69,22 @@ pub struct Crop {
 /// The means of the three calendar days before, the nearest first.
 pub type Earlier = [Option<i16>; 3];
 
-/// A figure in 0.0001 inch, or a refusal's number.
+/// A figure in 0.0001 inch, a refusal's number, or the figure of a day with the minimum in the dew point's place.
 #[derive(Clone, Copy, Debug, PartialEq, Eq)]
 pub enum Verdict {
     Figure(u32),
     Refused(u32),
+    Estimated(u32),
+}
+
+impl Verdict {
+    /// The figure of an answered day, with W4's mark or without.
+    pub fn figure(self) -> Option<u32> {
+        match self {
+            Verdict::Figure(figure) | Verdict::Estimated(figure) => Some(figure),
+            Verdict::Refused(_) => None,
+        }
+    }
 }
 
 /// The length written, or a refusal's number with its offset or, for 12, the length that a buffer needs.

@@ -48,6 +48,9 @@ extern "C" {
     ) -> u64;
 }
 
+/// In a verdict's high half, the mark of an estimated figure. No refusal has this number.
+const ESTIMATED: u32 = 256;
+
 /// The refusal's number in the high half (0 for none) and the value in the low half.
 #[inline]
 fn halves(returned: u64) -> (u32, u32) {
@@ -138,6 +141,7 @@ impl Handed {
 pub fn judge(station: &Station, day: &Day, earlier: &Earlier) -> Verdict {
     match halves(Handed::new(station, day, earlier).judged()) {
         (0, figure) => Verdict::Figure(figure),
+        (ESTIMATED, figure) => Verdict::Estimated(figure),
         (number, _) => Verdict::Refused(number),
     }
 }

@@ -1,7 +1,7 @@
 //! The step sheet and its refusals in plain i64, as one would write them without a proof: what the proved library's speed
 //! is measured against. By the ranges of the readings every intermediate value fits in i64, with a factor of two to spare
 //! at the narrowest place, the square of V4.
-use crate::{Day, Earlier, Station, Verdict, ROUTINE_LIMIT};
+use crate::{Day, Earlier, Station, Verdict, MISSING, ROUTINE_LIMIT};
 use std::ops::RangeInclusive;
 
 // ALBEDO, A1, AW, BW and PRESSURE, from the sources of the library's tables.
@@ -14,7 +14,6 @@ const CLEAR_MINIMUM: RangeInclusive<u16> = 50..=200;
 const ELEVATION: RangeInclusive<u16> = 0..=3_000;
 const WIND_LIMIT: RangeInclusive<u16> = 1_000..=ROUTINE_LIMIT;
 const YEAR: RangeInclusive<u16> = 1_950..=2_099;
-const MISSING: i16 = -32_768;
 
 /// Parts of a whole in the sheet's fractions.
 const BILLION: i64 = 1_000_000_000;
@@ -23,6 +22,7 @@ const BILLION: i64 = 1_000_000_000;
 #[inline(never)]
 pub fn judge(station: &Station, day: &Day, earlier: &Earlier) -> Verdict {
     match figure(station, day, earlier) {
+        Ok(figure) if day.dewpoint == MISSING => Verdict::Estimated(figure),
         Ok(figure) => Verdict::Figure(figure),
         Err(number) => Verdict::Refused(number),
     }
@@ -31,7 +31,13 @@ pub fn judge(station: &Station, day: &Day, earlier: &Earlier) -> Verdict {
 fn figure(station: &Station, day: &Day, earlier: &Earlier) -> Result<u32, u32> {
     refuse(!station_in_range(station), 3)?;
     refuse(!good_date(day.year, day.d), 6)?;
-    let temperatures = [day.maximum, day.minimum, day.mean, day.dewpoint];
+    // A minimum that is missing too leaves its mark here, and the day is refused with 7.
+    let dewpoint = if day.dewpoint == MISSING {
+        day.minimum
+    } else {
+        day.dewpoint
+    };
+    let temperatures = [day.maximum, day.minimum, day.mean, dewpoint];
     let missing =
         temperatures.contains(&MISSING) || day.radiation == MISSING || day.wind == MISSING;
     refuse(missing, 7)?;
@@ -45,7 +51,7 @@ fn figure(station: &Station, day: &Day, earlier: &Earlier) -> Result<u32, u32> {
             .flatten()
             .all(|mean| TEMPERATURE.contains(mean));
     refuse(!in_range, 8)?;
-    let disordered = day.minimum > day.mean || day.mean > day.maximum || day.dewpoint > day.maximum;
+    let disordered = day.minimum > day.mean || day.mean > day.maximum || dewpoint > day.maximum;
     refuse(disordered, 9)?;
 
     let s = i64::from(day.radiation);
@@ -64,11 +70,11 @@ fn figure(station: &Station, day: &Day, earlier: &Earlier) -> Result<u32, u32> {
     let of_day = usize::from(day.d) - 1;
     let at_maximum = vapour_pressure(i64::from(day.maximum));
     let at_minimum = vapour_pressure(i64::from(day.minimum));
-    let at_dewpoint = vapour_pressure(i64::from(day.dewpoint));
+    let at_dewpoint = vapour_pressure(i64::from(dewpoint));
 
     let root = whole_root(
         10_000_000 * at_dewpoint as u64,
-        184 * powers(i64::from(day.dewpoint)).2 as u64 / 1_000,
+        184 * powers(i64::from(dewpoint)).2 as u64 / 1_000,
     ) as i64;
     let emittance = i64::from(A1[of_day]) - 139 * root / 100;
     let longwave = emittance * black_body(day) / BILLION * cloud_factor(s, q) / BILLION;

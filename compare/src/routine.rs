@@ -5,7 +5,8 @@
 //! - the routine caps the ratio of radiation to clear-day radiation at one;
 //! - its day number X has no leap day: 29 February and 1 March share 60, and later days are one lower;
 //! - it tests 0.70 on the computed ratio, so a ratio of just 0.70 may fall on either side;
-//! - its wind limit is 150 miles for every station.
+//! - its wind limit is 150 miles for every station;
+//! - it refuses a day without a dew point: here it is handed the minimum in its place.
 //!
 //! It refuses missing readings only. The guards ABS(VAPDP) and RSO = 0 never act within the accepted ranges.
 use crate::{Day, Earlier, Station};
@@ -54,7 +55,7 @@ pub fn etpcomp(station: &Station, day: &Day, earlier: &Earlier) -> Opinion {
     let tmean = to_celsius(tenths(day.mean));
     let tmax = to_celsius(tenths(day.maximum));
     let tmin = to_celsius(tenths(day.minimum));
-    let tdew = to_celsius(tenths(day.dewpoint));
+    let tdew = to_celsius(tenths(day.dewpoint_or_substitute()));
     let kmax = tmax + 273.16;
     let kmin = tmin + 273.16;
     let solar = sr_value * 0.041868;
@@ -136,14 +137,17 @@ pub fn etpcomp(station: &Station, day: &Day, earlier: &Earlier) -> Opinion {
 mod tests {
     use super::{etpcomp, Known};
     use crate::days::halves;
-    use crate::equation;
+    use crate::{equation, MISSING};
 
     #[test]
     fn the_equation_where_nothing_differs() {
-        for case in halves() {
-            let opinion = etpcomp(&case.station, &case.day, &case.earlier);
-            let value = equation::inches(&case.station, &case.day, &case.earlier);
-            assert!(opinion.known == Known::Nothing && (opinion.inches - value).abs() < 1e-14);
+        for mut case in halves() {
+            for dewpoint in [case.day.dewpoint, MISSING] {
+                case.day.dewpoint = dewpoint;
+                let opinion = etpcomp(&case.station, &case.day, &case.earlier);
+                let value = equation::inches(&case.station, &case.day, &case.earlier);
+                assert!(opinion.known == Known::Nothing && (opinion.inches - value).abs() < 1e-14);
+            }
         }
     }
 

@@ -5,8 +5,8 @@ use compare::days::{self, Case, Random};
 use compare::routine::{self, Known};
 use compare::second::log::Judged;
 use compare::second::{crop, station, Reason};
-use compare::{equation, office, second, table_text, Outcome, Verdict};
-use std::collections::BTreeMap;
+use compare::{equation, office, second, table_text, Day, Outcome, Verdict, MISSING};
+use std::collections::{BTreeMap, BTreeSet};
 use std::fmt::Debug;
 use std::io::{ErrorKind, Write};
 use std::path::{Path, PathBuf};
@@ -46,8 +46,8 @@ const ALLOWED: f64 = 0.515;
 const CROP_ALLOWED: f64 = 1.53;
 
 const LONGEST_LOG: usize = 65_536;
-/// The header and the lines of 3,839 days with a figure and a crop figure.
-const LONGEST_REPORT: usize = 126_703;
+/// The header and the lines of 3,839 days with a figure, a mark and a crop figure.
+const LONGEST_REPORT: usize = 134_381;
 
 fn main() -> ExitCode {
     let start = Instant::now();
@@ -178,6 +178,76 @@ impl ByOneReason {
     }
 }
 
+/// The refusals that can be given to a day with the minimum in the dew point's place, once its date is good.
+const WITH_SUBSTITUTE: [usize; 3] = [8, 9, 10];
+
+/// How another reading can be missing.
+const MISSING_WITH: [&str; 2] = ["alone", "and the dew point"];
+
+/// What became of the days that W4 is about.
+#[derive(Default)]
+struct DewPointTally {
+    estimated: u64,
+    /// Those that were refused with the dew point alone missing.
+    refused: [u64; 13],
+    /// Those that were refused with 7 for one other reading.
+    refused_for_reading: [ByOneReason; MISSING_WITH.len()],
+}
+
+impl DewPointTally {
+    fn count(&mut self, day: &Day, verdict: Verdict) {
+        match verdict {
+            Verdict::Estimated(_) => self.estimated += 1,
+            Verdict::Refused(7) => {
+                let by_reading =
+                    &mut self.refused_for_reading[usize::from(day.dewpoint == MISSING)];
+                by_reading.count(&second::MISSING_READINGS, day);
+            }
+            Verdict::Refused(number) if second::dew_point_alone_missing(day) => {
+                self.refused[number as usize] += 1;
+            }
+            _ => {}
+        }
+    }
+
+    fn print(&self, estimates: &str) {
+        println!("  {estimates}: {}", self.estimated);
+        for number in WITH_SUBSTITUTE {
+            println!(
+                "  refusal {number} with the dew point alone missing: {}",
+                self.refused[number]
+            );
+        }
+        for (with, by_reading) in MISSING_WITH.iter().zip(&self.refused_for_reading) {
+            for (reading, met) in by_reading.met(&second::MISSING_READINGS) {
+                println!("  refusal 7 for {reading} {with}: {met}");
+            }
+        }
+    }
+
+    fn all_reached(&self, of: &str) -> Result<(), String> {
+        if self.estimated == 0 {
+            return Err(format!("no day {of} without a dew point was estimated"));
+        }
+        for number in WITH_SUBSTITUTE {
+            if self.refused[number] == 0 {
+                return Err(format!(
+                    "refusal {number} of a day {of} with the dew point alone missing was never reached"
+                ));
+            }
+        }
+        for (with, by_reading) in MISSING_WITH.iter().zip(&self.refused_for_reading) {
+            let readings = by_reading.met(&second::MISSING_READINGS);
+            if let Some((reading, _)) = readings.iter().find(|(_, met)| *met == 0) {
+                return Err(format!(
+                    "refusal 7 of a day {of} for {reading} {with} was never reached"
+                ));
+            }
+        }
+        Ok(())
+    }
+}
+
 #[derive(Default)]
 struct DayTally {
     days: u64,
@@ -188,7 +258,10 @@ struct DayTally {
     refused: [u64; 13],
     refused_for_station: ByOneReason,
     refused_for_earlier: u64,
+    dew_points: DewPointTally,
     largest: Largest<Case>,
+    /// Of the estimated days.
+    largest_estimated: Largest<Case>,
     opinions: [Opinions; Known::ALL.len()],
 }
 
@@ -206,9 +279,22 @@ impl DayTally {
                 "a day handed in alone: {given:?}, the second implementation {expected:?}\n{case:?}"
             ));
         }
+        if second::dew_point_alone_missing(day) {
+            check_substitute(given, case)?;
+        }
         self.days += 1;
+        self.dew_points.count(day, given);
         match given {
-            Verdict::Figure(figure) => self.check_figure(figure, case),
+            Verdict::Figure(figure) => {
+                let difference = self.check_figure(figure, case)?;
+                self.largest.take(difference, case);
+                Ok(())
+            }
+            Verdict::Estimated(figure) => {
+                let difference = self.check_figure(figure, case)?;
+                self.largest_estimated.take(difference, case);
+                Ok(())
+            }
             Verdict::Refused(number) => {
                 self.refused[number as usize] += 1;
                 if number == 3 {
@@ -221,7 +307,8 @@ impl DayTally {
         }
     }
 
-    fn check_figure(&mut self, figure: u32, case: &Case) -> Result<(), String> {
+    /// A figure against the equation and the routine; its difference from the equation.
+    fn check_figure(&mut self, figure: u32, case: &Case) -> Result<f64, String> {
         self.answered += 1;
         self.above_zero += u64::from(figure > 0);
         let Case {
@@ -235,11 +322,10 @@ impl DayTally {
             format!("figure {figure} is {by} from {from}, more than {ALLOWED}\n{case:?}")
         };
 
-        let difference = away(equation::inches(station, day, earlier));
-        if difference > ALLOWED {
-            return Err(beyond("the equation", difference));
+        let from_equation = away(equation::inches(station, day, earlier));
+        if from_equation > ALLOWED {
+            return Err(beyond("the equation", from_equation));
         }
-        self.largest.take(difference, case);
 
         let opinion = routine::etpcomp(station, day, earlier);
         let difference = away(opinion.inches);
@@ -247,7 +333,7 @@ impl DayTally {
             return Err(beyond("the published routine", difference));
         }
         self.opinions[opinion.known as usize].take(difference);
-        Ok(())
+        Ok(from_equation)
     }
 
     fn print(&self) {
@@ -266,13 +352,35 @@ impl DayTally {
             "  refusal 8 for an earlier mean: {}",
             self.refused_for_earlier
         );
+        self.dew_points.print("figures with the mark of W4");
         self.largest.print("from the equation");
+        self.largest_estimated
+            .print("of an estimated day from the equation with the substitute");
         println!("the published routine, in 0.0001 inch:");
         for (known, what) in Known::ALL {
             let Opinions { count, largest } = self.opinions[known as usize];
             println!("  {what}: {count} days, largest difference {largest:.4}");
         }
     }
+}
+
+/// A day without a dew point is judged as the day with the minimum in its place, but for the mark.
+fn check_substitute(given: Verdict, case: &Case) -> Result<(), String> {
+    let day = Day {
+        dewpoint: case.day.minimum,
+        ..case.day
+    };
+    let substituted = office::judge(&case.station, &day, &case.earlier);
+    let expected = match substituted {
+        Verdict::Figure(figure) => Verdict::Estimated(figure),
+        other => other,
+    };
+    if given != expected {
+        return Err(format!(
+            "a day without a dew point: {given:?}, with the minimum in its place {substituted:?}\n{case:?}"
+        ));
+    }
+    Ok(())
 }
 
 fn compare_days(size: &Size) -> Result<DayTally, String> {
@@ -283,6 +391,9 @@ fn compare_days(size: &Size) -> Result<DayTally, String> {
     }
     for _ in 0..size.sweeps {
         for case in days::sweep(&mut random) {
+            tally.check(&case)?;
+        }
+        for case in days::dew_point_edges(&mut random) {
             tally.check(&case)?;
         }
     }
@@ -298,8 +409,11 @@ struct LogTally {
     accepted: u64,
     calls: u64,
     refused: [u64; 14],
+    /// The logs for which a buffer had room for all but the crop figures of estimated days, as was enough before W4.
+    too_short_since_estimates: u64,
     days: u64,
     days_refused: [u64; 13],
+    dew_points: DewPointTally,
     stations: StationTally,
     crops: CropTally,
     reports: ReportTally,
@@ -372,14 +486,19 @@ impl LogTally {
                 0
             }
         };
+        let judged = second::log::judged(log).unwrap_or_default();
+        let of_estimated = judged.iter().filter(|judged| has_estimated_crop(judged));
+        let before_estimates = needed - 9 * of_estimated.count();
+        self.too_short_since_estimates += u64::from(before_estimates < needed);
         // A day's answers have at most one byte more than its record, so the last length is always more than is needed.
-        for length in [
+        for length in BTreeSet::from([
             0,
+            before_estimates,
             needed.saturating_sub(1),
             needed,
             needed + 1,
             log.len() + log.len() / 17 + 5,
-        ] {
+        ]) {
             for turned in [false, true] {
                 self.check_buffer(log, &answers, length, turned)
                     .and_then(|read| self.reports.check(log, &report, length, turned, &read))
@@ -389,11 +508,12 @@ impl LogTally {
             }
         }
         // The library's answers are these days' answers, as they were found to be the same.
-        for judged in second::log::judged(log).iter().flatten() {
+        for judged in &judged {
             self.days += 1;
             if let Verdict::Refused(number) = judged.verdict {
                 self.days_refused[number as usize] += 1;
             }
+            self.dew_points.count(&judged.day, judged.verdict);
             self.stations.count_day(judged);
             self.crops.check(judged)?;
         }
@@ -430,15 +550,24 @@ impl LogTally {
         for number in [1, 2, 3, 4, 5, 13] {
             println!("  refusal {number}: {} logs", self.refused[number]);
         }
-        println!("  refusal 12: {} buffers", self.refused[12]);
+        println!(
+            "  refusal 12: {} buffers, in {} logs one that was long enough before days were estimated",
+            self.refused[12], self.too_short_since_estimates
+        );
         println!("  days in accepted logs: {}", self.days);
         for number in [6, 7, 8, 9, 10, 11] {
             println!("  refusal {number}: {} days", self.days_refused[number]);
         }
+        self.dew_points.print("answers of kind 9");
         self.stations.print();
         self.crops.print();
         self.reports.print();
     }
+}
+
+/// Whether a day without a dew point has a crop figure after its answer of kind 9.
+fn has_estimated_crop(judged: &Judged) -> bool {
+    matches!(judged.verdict, Verdict::Estimated(_)) && judged.crop_figure().is_some()
 }
 
 /// The kinds of station records.
@@ -471,7 +600,7 @@ impl StationTally {
     }
 
     fn count_day(&mut self, judged: &Judged) {
-        let answered = matches!(judged.verdict, Verdict::Figure(_));
+        let answered = judged.verdict.figure().is_some();
         self.limited += u64::from(answered && judged.station.limits(&judged.day));
     }
 
@@ -503,6 +632,8 @@ struct CropTally {
     refused: ByOneReason,
     standings: [u64; STANDINGS.len()],
     figures: u64,
+    /// Those of estimated days.
+    estimated: u64,
     /// Those that were a whole number and a half before they were rounded.
     halves: u64,
     largest: Largest<Judged>,
@@ -536,12 +667,13 @@ impl CropTally {
             _ => 0,
         }] += 1;
         let percentage = crop::percentage(crop, day.year, day.d);
-        let (Verdict::Figure(reference), Some((numerator, l)), Some(figure)) =
-            (*verdict, percentage, judged.crop_figure())
+        let (Some(reference), Some((numerator, l)), Some(figure)) =
+            (verdict.figure(), percentage, judged.crop_figure())
         else {
             return Ok(());
         };
         self.figures += 1;
+        self.estimated += u64::from(has_estimated_crop(judged));
         let hundredths = 100 * l;
         let twice = 2 * i128::from(reference) * numerator;
         self.halves += u64::from(twice % (2 * hundredths) == hundredths);
@@ -571,8 +703,8 @@ impl CropTally {
             println!("  with a crop, {standing}: {met} days");
         }
         println!(
-            "  crop figures: {}, of them {} rounded up from a half",
-            self.figures, self.halves
+            "  crop figures: {}, of them {} rounded up from a half, {} after an answer of kind 9",
+            self.figures, self.halves, self.estimated
         );
         self.largest
             .print("of a crop figure from the equation's value times the percentage");
@@ -679,7 +811,7 @@ fn full_logs(random: &mut Random) -> Vec<Vec<u8>> {
         vec![0; LONGEST_LOG + 1],
         vec![1; 140_000],
     ];
-    for after in [0, 1, 2, 6, 8, 255] {
+    for after in [0, 1, 2, 6, 8, 9, 255] {
         logs.push([&full[..], &[after]].concat());
         logs.push([&full[..LONGEST_LOG - 17], &[after]].concat());
     }
@@ -709,6 +841,9 @@ fn compare_logs(size: &Size) -> Result<LogTally, String> {
             tally.check(&log)?;
         }
         for log in days::station_edges(&mut random) {
+            tally.check(&log)?;
+        }
+        for log in days::dew_point_logs(&mut random) {
             tally.check(&log)?;
         }
     }
@@ -777,7 +912,7 @@ fn sample_logs() -> Result<Vec<Vec<u8>>, String> {
 type IsOfKind = fn(&[u8], &str) -> bool;
 
 /// The kinds of logs that the report program must have been run on.
-const LOG_KINDS: [(&str, IsOfKind); 13] = [
+const LOG_KINDS: [(&str, IsOfKind); 14] = [
     ("refusal 1", |_, report| report.starts_with("REFUSED 1 ")),
     ("refusal 2", |_, report| report.starts_with("REFUSED 2 ")),
     ("refusal 3", |_, report| report.starts_with("REFUSED 3 ")),
@@ -799,7 +934,10 @@ const LOG_KINDS: [(&str, IsOfKind); 13] = [
     ("with a crop figure", |_, report| {
         report.lines().any(|line| line.split(' ').count() == 2)
     }),
-    ("with a report of 126703 bytes", |_, report| {
+    ("with an estimated day", |_, report| {
+        report.lines().any(|line| line.ends_with(" E"))
+    }),
+    ("with a report of 134381 bytes", |_, report| {
         report.len() == LONGEST_REPORT
     }),
 ];
@@ -856,8 +994,8 @@ fn compare_program() -> Result<ProgramTally, String> {
 }
 
 /// Fails if a refusal that can be given was never met, a kind of station never accepted, a wind run never cut by a limit
-/// below the routine's, a day never stood in some way to a crop, a kind of report was never written to a kind of text
-/// buffer, or the report program never run on a kind of log.
+/// below the routine's, nothing of some sort became of a day without a dew point, a day never stood in some way to a crop, a
+/// kind of report was never written to a kind of text buffer, or the report program never run on a kind of log.
 fn all_reached(days: &DayTally, logs: &LogTally, program: &ProgramTally) -> Result<(), String> {
     let of_days = [3, 6, 7, 8, 9, 10].map(|number| (number, "days alone", days.refused[number]));
     let of_logs = [1, 2, 3, 4, 5, 12, 13].map(|number| (number, "logs", logs.refused[number]));
@@ -902,12 +1040,21 @@ fn all_reached(days: &DayTally, logs: &LogTally, program: &ProgramTally) -> Resu
             return Err(format!("no day {of} was {LIMITED}"));
         }
     }
+    days.dew_points.all_reached("alone")?;
+    logs.dew_points.all_reached("in a log")?;
+    if logs.too_short_since_estimates == 0 {
+        return Err("no buffer had room for all but the crop figures of estimated days".into());
+    }
     for (standing, met) in STANDINGS.iter().zip(crops.standings) {
         if met == 0 {
             return Err(format!("no day with a crop was {standing}"));
         }
     }
-    for (what, met) in [("", crops.figures), (" that was a half", crops.halves)] {
+    for (what, met) in [
+        ("", crops.figures),
+        (" that was a half", crops.halves),
+        (" after an answer of kind 9", crops.estimated),
+    ] {
         if met == 0 {
             return Err(format!("no crop figure{what} was met"));
         }

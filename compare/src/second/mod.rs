@@ -13,10 +13,9 @@ pub mod text;
 pub use log::{answer_bytes, put, read_log, write};
 pub use text::{refused_line, report};
 
-use crate::{Day, Earlier, Station, Verdict};
+use crate::{Day, Earlier, Station, Verdict, MISSING};
 use std::ops::RangeInclusive;
 
-const MISSING: i16 = -32_768;
 const TEMPERATURE: RangeInclusive<i16> = -94..=1_291;
 const RADIATION: RangeInclusive<i16> = 0..=12_000;
 const WIND: RangeInclusive<i16> = 0..=9_999;
@@ -35,10 +34,45 @@ pub fn judge(station: &Station, day: &Day, earlier: &Earlier) -> Verdict {
     }
 }
 
+/// The reasons for refusal 7 since W4: a missing dew point is none.
+pub const MISSING_READINGS: [Reason<Day>; 5] = [
+    ("the maximum", |day| day.maximum == MISSING),
+    ("the minimum", |day| day.minimum == MISSING),
+    ("the mean", |day| day.mean == MISSING),
+    ("the radiation", |day| day.radiation == MISSING),
+    ("the wind run", |day| day.wind == MISSING),
+];
+
+fn other_reading_missing(day: &Day) -> bool {
+    MISSING_READINGS.iter().any(|(_, holds)| holds(day))
+}
+
+/// The days of W4, in which the minimum takes the dew point's place.
+pub fn dew_point_alone_missing(day: &Day) -> bool {
+    day.dewpoint == MISSING && !other_reading_missing(day)
+}
+
 /// Refusals 7 to 11 or the figure, for a day whose date is good.
 fn judge_dated(station: &Station, day: &Day, earlier: &Earlier) -> Verdict {
+    if other_reading_missing(day) {
+        return Verdict::Refused(7);
+    }
+    if !dew_point_alone_missing(day) {
+        return judge_read(station, day, earlier);
+    }
+    let with_substitute = Day {
+        dewpoint: day.minimum,
+        ..*day
+    };
+    match judge_read(station, &with_substitute, earlier) {
+        Verdict::Figure(figure) => Verdict::Estimated(figure),
+        refused => refused,
+    }
+}
+
+/// Refusals 8 to 11 or the figure, for a day that has all its readings.
+fn judge_read(station: &Station, day: &Day, earlier: &Earlier) -> Verdict {
     let temperatures = [day.maximum, day.minimum, day.mean, day.dewpoint];
-    let missing = temperatures.contains(&MISSING) || [day.radiation, day.wind].contains(&MISSING);
     let in_range = temperatures
         .iter()
         .chain(earlier.iter().flatten())
@@ -47,9 +81,7 @@ fn judge_dated(station: &Station, day: &Day, earlier: &Earlier) -> Verdict {
         && WIND.contains(&day.wind);
     let in_order =
         day.minimum <= day.mean && day.mean <= day.maximum && day.dewpoint <= day.maximum;
-    if missing {
-        Verdict::Refused(7)
-    } else if !in_range {
+    if !in_range {
         Verdict::Refused(8)
     } else if !in_order {
         Verdict::Refused(9)
@@ -96,7 +128,18 @@ mod tests {
     fn refusal(station: Station, day: Day, earlier: Earlier) -> u32 {
         match judge(&station, &day, &earlier) {
             Verdict::Refused(number) => number,
-            Verdict::Figure(_) => 0,
+            Verdict::Figure(_) | Verdict::Estimated(_) => 0,
+        }
+    }
+
+    /// The other temperatures are these.
+    fn without_dew_point(minimum: i16, mean: i16, maximum: i16) -> Day {
+        Day {
+            maximum,
+            minimum,
+            mean,
+            dewpoint: MISSING,
+            ..WARM
         }
     }
 
@@ -135,6 +178,66 @@ mod tests {
         assert_eq!(refusal(LEVEL, WARM, [Some(MISSING), None, None]), 8);
         let unordered = Day { mean: 901, ..WARM };
         assert_eq!(refusal(LEVEL, unordered, [None, None, Some(-95)]), 8);
+    }
+
+    #[test]
+    fn the_minimum_takes_the_place_of_a_missing_dew_point() {
+        let with = |dewpoint| judge(&LEVEL, &Day { dewpoint, ..WARM }, &[Some(640), None, None]);
+        let figure = with(500).figure().expect("no refusal holds");
+        assert_eq!(with(500), Verdict::Figure(figure));
+        assert_eq!(with(MISSING), Verdict::Estimated(figure));
+        assert_ne!(with(480).figure(), Some(figure));
+        // One beside the mark is a dew point out of range.
+        assert_eq!(with(MISSING + 1), Verdict::Refused(8));
+    }
+
+    #[test]
+    fn any_other_missing_reading_is_refused_with_7() {
+        let others: [fn(&mut Day); 5] = [
+            |day| day.maximum = MISSING,
+            |day| day.minimum = MISSING,
+            |day| day.mean = MISSING,
+            |day| day.radiation = MISSING,
+            |day| day.wind = MISSING,
+        ];
+        let mut none = without_dew_point(500, 700, 900);
+        for lose in others {
+            for mut day in [WARM, without_dew_point(500, 700, 900)] {
+                lose(&mut day);
+                assert_eq!(refusal(LEVEL, day, ALONE), 7);
+                assert!(!dew_point_alone_missing(&day));
+            }
+            lose(&mut none);
+            assert_eq!(refusal(LEVEL, none, ALONE), 7);
+        }
+        assert!(!dew_point_alone_missing(&WARM));
+        assert!(dew_point_alone_missing(&without_dew_point(500, 700, 900)));
+    }
+
+    #[test]
+    fn the_minimum_in_the_dew_points_place_is_tested_as_any_other() {
+        let refusals = |days: [Day; 2]| days.map(|day| refusal(LEVEL, day, ALONE));
+        let coldest = [-95, -94].map(|minimum| without_dew_point(minimum, 300, 500));
+        assert_eq!(refusals(coldest), [8, 0]);
+        let hottest = [1_291, 1_292].map(|minimum| without_dew_point(minimum, 1_291, 1_291));
+        assert_eq!(refusals(hottest), [0, 8]);
+        let of_mean = [700, 701].map(|minimum| without_dew_point(minimum, 700, 900));
+        assert_eq!(refusals(of_mean), [0, 9]);
+        // Above the maximum, where a dew point may not be either.
+        assert_eq!(
+            refusals([
+                without_dew_point(901, 700, 900),
+                without_dew_point(700, 901, 900)
+            ]),
+            [9, 9]
+        );
+        let bright = [10_000, 10_001].map(|radiation| Day {
+            radiation,
+            ..without_dew_point(500, 700, 900)
+        });
+        assert_eq!(refusals(bright), [0, 10]);
+        let earlier = [None, None, Some(1_292)];
+        assert_eq!(refusal(LEVEL, without_dew_point(701, 700, 900), earlier), 8);
     }
 
     #[test]

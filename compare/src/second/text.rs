@@ -1,4 +1,4 @@
-//! The report of a log as text, as scope document 01 lays it out, with the lines of W1's crop figures.
+//! The report of a log as text, as scope document 01 lays it out, with the lines of W1's crop figures and W4's mark.
 use super::log::{answers, Answer};
 use crate::Verdict;
 
@@ -10,6 +10,7 @@ fn shown(verdict: &Verdict) -> String {
     match verdict {
         Verdict::Figure(figure) => inches(*figure),
         Verdict::Refused(number) => format!("R{number}"),
+        Verdict::Estimated(figure) => format!("{} E", inches(*figure)),
     }
 }
 
@@ -72,6 +73,17 @@ mod tests {
     }
 
     #[test]
+    fn a_day_without_a_dew_point_has_a_mark() {
+        let mut log = WORKED.to_vec();
+        log[64..66].copy_from_slice(b"\x80\x00");
+        assert_eq!(
+            report(&log),
+            "STN YEAR DAY ET\nLIDW 2008 010 R7\nLIDW 2008 011 R7\nLIDW 2008 012 0.0000 E\n"
+        );
+        assert_eq!(shown(&Verdict::Estimated(123_045)), "12.3045 E");
+    }
+
+    #[test]
     fn the_header_alone_and_a_refused_log() {
         assert_eq!(report(&[]), "STN YEAR DAY ET\n");
         assert_eq!(report(&WORKED[..69]), "REFUSED 2 53\n");
@@ -83,7 +95,7 @@ mod tests {
         let log = answered_log(&mut Random::new(4));
         let answers = answer_bytes(&log).map(|answers| answers.len());
         let lengths = (log.len(), answers, report(&log).len());
-        assert_eq!(lengths, (65_524, Ok(69_107), 126_703));
+        assert_eq!(lengths, (65_524, Ok(69_107), 134_381));
     }
 
     #[test]
