@@ -6,3 +6,4 @@ pub mod DayBound
 pub mod FigureLimit
 pub mod Edges
 pub mod Examples
+pub mod WithoutSubstitute

@@ -1,0 +1,102 @@
+-- What has become of each day's verdict since the minimum stands for a missing dew point. The theorem is `since`. Assumes nothing.
+use mathlib.Core.Bool.{Bool, true, false, not, cond}
+use mathlib.Core.List.{List, [], _∷_}
+use mathlib.Core.Logic.{_≢_}
+use mathlib.Core.Path.{_≡_, refl, sym, ap, subst, _∙_}
+use lib.Dec.{T}
+use Rattle.day.specs.Calendar.{isDate}
+use Rattle.day.specs.Rules.{anyOf, badStation, isMissing, otherMarks}
+use Rattle.day.specs.Judgement.{figureOf, holds, firstOf, standingOf, lacksDewPoint, asJudged, withMark, verdictWith, judged}
+use Rattle.day.specs.WithoutSubstitute.{judgedStrictly, withMinimum, estimated, Since}
+use Rattle.day.specs.declared.Station.{Station}
+use Rattle.day.specs.declared.Day.{Day}
+use Rattle.day.specs.declared.Earlier.{Earlier}
+use Rattle.day.specs.declared.Refusal.{Refusal}
+use Rattle.day.specs.declared.Refusal.the-variants.{StationField, BadDate, Missing, OutOfRange, OutOfOrder, AboveClear, SumBelowOne}
+use Rattle.day.specs.declared.Standing.{Standing}
+use Rattle.day.specs.declared.Standing.the-variants as standing
+use Rattle.day.specs.declared.Verdict.{Verdict}
+use Rattle.day.specs.declared.Verdict.the-variants.{Figure, Refused, Estimated}
+
+-- ---- the day as it is judged
+
+judged-with : (x : Day) {lacks : Bool} → lacksDewPoint x ≡ lacks → asJudged x
+    ≡ record {
+      year = x .year;
+      d = x .d;
+      maximum = x .maximum;
+      minimum = x .minimum;
+      mean = x .mean;
+      dewpoint = cond lacks (x .minimum) (x .dewpoint);
+      radiation = x .radiation;
+      wind = x .wind;
+    }
+unfolding asJudged
+judged-with x e =
+    λ i.
+    record {
+      year = x .year;
+      d = x .d;
+      maximum = x .maximum;
+      minimum = x .minimum;
+      mean = x .mean;
+      dewpoint = cond (e i) (x .minimum) (x .dewpoint);
+      radiation = x .radiation;
+      wind = x .wind;
+    }
+
+-- ---- the tests before 7, and 7 itself
+
+-- 3 and 6 are the same with any dew point: where 7 held and was not the first, what was first still is
+earlier-tests : (a b m : Bool) (s t : Standing) (v w : Verdict) → m ≡ true →
+    let before = cond a (standing.Refused StationField) (cond b (standing.Refused BadDate) (cond m (standing.Refused Missing) s)) in
+    verdictWith before v ≢ Refused Missing →
+    verdictWith (cond a (standing.Refused StationField) (cond b (standing.Refused BadDate) t)) w ≡ verdictWith before v
+earlier-tests true b m s t v w e other = refl
+earlier-tests false true m s t v w e other = refl
+earlier-tests false false true s t v w e other = absurd (other refl)
+earlier-tests false false false s t v w e other = absurd (subst T (sym e) tt)
+
+dew-point-missing : (x : Day) → lacksDewPoint x ≡ true → isMissing (x .dewpoint) ≡ true
+unfolding lacksDewPoint
+dew-point-missing x e = by (isMissing (x .dewpoint)) (not (anyOf (otherMarks (x .maximum) (x .minimum) (x .mean) (x .radiation) (x .wind)))) e
+  where
+    by : (b c : Bool) → cond b c false ≡ true → b ≡ true
+    by true c e = refl
+    by false c e = e
+
+module _ (st : Station) (x : Day) (earlier : Earlier) where
+  remains : lacksDewPoint x ≡ false → judged st x earlier ≡ judgedStrictly st x earlier
+  unfolding judged judgedStrictly withMark
+  remains e =
+      let same : asJudged x ≡ x = judged-with x e in
+      λ i. verdictWith (standingOf st (same i) earlier) (cond (e i) (Estimated (figureOf st (same i) earlier)) (Figure (figureOf st (same i) earlier)))
+
+  substituted : lacksDewPoint x ≡ true → judged st x earlier ≡ estimated (judgedStrictly st (withMinimum x) earlier)
+  unfolding judged judgedStrictly withMark
+  substituted e =
+      let same : asJudged x ≡ withMinimum x = judged-with x e in
+      (λ i. verdictWith (standingOf st (same i) earlier) (cond (e i) (Estimated (figureOf st (same i) earlier)) (Figure (figureOf st (same i) earlier))))
+      ∙ marked (standingOf st (withMinimum x) earlier)
+    where
+      marked : (s : Standing) → verdictWith s (Estimated (figureOf st (withMinimum x) earlier)) ≡ estimated (verdictWith s (Figure (figureOf st (withMinimum x) earlier)))
+      marked (standing.Refused r) = refl
+      marked standing.Answered = refl
+
+  -- what was not refused with 7 without its dew point was refused before that
+  kept-without : lacksDewPoint x ≡ true → judgedStrictly st x earlier ≢ Refused Missing → judged st x earlier ≡ judgedStrictly st x earlier
+  unfolding judged judgedStrictly standingOf holds asJudged
+  kept-without e other =
+      earlier-tests (badStation st) (not (isDate (x .year) (x .d))) (holds Missing st x earlier)
+      (firstOf (OutOfRange ∷ OutOfOrder ∷ AboveClear ∷ SumBelowOne ∷ []) (λ r. holds r st x earlier))
+      (firstOf (Missing ∷ OutOfRange ∷ OutOfOrder ∷ AboveClear ∷ SumBelowOne ∷ []) (λ r. holds r st (asJudged x) earlier))
+      (Figure (figureOf st x earlier)) (withMark x (figureOf st (asJudged x) earlier))
+      (ap (λ (b : Bool). cond b true (anyOf (otherMarks (x .maximum) (x .minimum) (x .mean) (x .radiation) (x .wind)))) (dew-point-missing x e))
+      other
+
+  kept : (lacks : Bool) → lacksDewPoint x ≡ lacks → judgedStrictly st x earlier ≢ Refused Missing → judged st x earlier ≡ judgedStrictly st x earlier
+  kept true e other = kept-without e other
+  kept false e other = remains e
+
+  pub since : Since st x earlier
+  since = record { kept = kept (lacksDewPoint x) refl; remains = remains; substituted = substituted }
