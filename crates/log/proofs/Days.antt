@@ -63,7 +63,7 @@ module _ {s : List ℕ} {i : ℕ} {x : Station} {y : Day} {earlier : Earlier} {g
     whole =
         ap (λ (o : Outcome). leaves o (bytesOf (answersTo s)) buffer) e
         ∙ ap (λ (r : Reading). bytesOf (answersOf (entriesOf r)) ++ drop n buffer) (d .stands)
-        ∙ ap (λ (l : List ℕ). l ++ drop n buffer) (answers-append (d .before) (day (d .block) y ∷ d .later))
+        ∙ ap (λ (l : List ℕ). l ++ drop n buffer) (answers-append answersFor (d .before) (day (d .block) y ∷ d .later))
         ∙ append-assoc front (bytesOf (answersOf (day (d .block) y ∷ d .later))) (drop n buffer)
         ∙ ap (λ (l : List ℕ). front ++ (l ++ drop n buffer)) (bytes-append (answersFor (day (d .block) y)) (answersOf (d .later)))
         ∙ ap (λ (v : Verdict). front ++ (((answerBytes (dayAnswer y v) ++ bytesOf (cropAnswers (d .block .crop) y v)) ++ bytesOf (answersOf (d .later))) ++ drop n buffer)) verdict-is
