@@ -83,16 +83,34 @@ module _ (st : Station) (x : Day) (earlier : Earlier) where
       marked (standing.Refused r) = refl
       marked standing.Answered = refl
 
-  -- what was not refused with 7 without its dew point was refused before that
+  missing-held : lacksDewPoint x ≡ true → holds Missing st x earlier ≡ true
+  unfolding holds
+  missing-held e =
+      ap (λ (b : Bool). cond b true (anyOf (otherMarks (x .maximum) (x .minimum) (x .mean) (x .radiation) (x .wind)))) (dew-point-missing x e)
+
+  -- so the day was refused with 3, 6 or 7
+  pub refused-without : lacksDewPoint x ≡ true → (r : Refusal) × (judgedStrictly st x earlier ≡ Refused r)
+  unfolding judgedStrictly standingOf holds
+  refused-without e =
+      by (badStation st) (not (isDate (x .year) (x .d))) (holds Missing st x earlier)
+      (firstOf (OutOfRange ∷ OutOfOrder ∷ AboveClear ∷ SumBelowOne ∷ []) (λ r. holds r st x earlier)) (missing-held e)
+    where
+      by : (a b m : Bool) (s : Standing) → m ≡ true → (r : Refusal)
+          × (verdictWith (cond a (standing.Refused StationField) (cond b (standing.Refused BadDate) (cond m (standing.Refused Missing) s))) (Figure (figureOf st x earlier))
+          ≡ Refused r)
+      by true b m s f = (StationField, refl)
+      by false true m s f = (BadDate, refl)
+      by false false true s f = (Missing, refl)
+      by false false false s f = absurd (subst T (sym f) tt)
+
+  -- and where 7 was not first, what was is so still
   kept-without : lacksDewPoint x ≡ true → judgedStrictly st x earlier ≢ Refused Missing → judged st x earlier ≡ judgedStrictly st x earlier
   unfolding judged judgedStrictly standingOf holds asJudged
   kept-without e other =
       earlier-tests (badStation st) (not (isDate (x .year) (x .d))) (holds Missing st x earlier)
       (firstOf (OutOfRange ∷ OutOfOrder ∷ AboveClear ∷ SumBelowOne ∷ []) (λ r. holds r st x earlier))
       (firstOf (Missing ∷ OutOfRange ∷ OutOfOrder ∷ AboveClear ∷ SumBelowOne ∷ []) (λ r. holds r st (asJudged x) earlier))
-      (Figure (figureOf st x earlier)) (withMark x (figureOf st (asJudged x) earlier))
-      (ap (λ (b : Bool). cond b true (anyOf (otherMarks (x .maximum) (x .minimum) (x .mean) (x .radiation) (x .wind)))) (dew-point-missing x e))
-      other
+      (Figure (figureOf st x earlier)) (withMark x (figureOf st (asJudged x) earlier)) (missing-held e) other
 
   kept : (lacks : Bool) → lacksDewPoint x ≡ lacks → judgedStrictly st x earlier ≢ Refused Missing → judged st x earlier ≡ judgedStrictly st x earlier
   kept true e other = kept-without e other

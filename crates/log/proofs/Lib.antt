@@ -16,6 +16,7 @@ pub mod Sample
 pub mod WorkedLog
 pub mod WorkedCrop
 pub mod WorkedLimit
+pub mod WorkedEstimate
 pub mod Steps
 pub mod TwoParts
 pub mod OutcomeSize
@@ -25,3 +26,4 @@ pub mod WithoutKind
 pub mod WithoutCrops
 pub mod FirstStation
 pub mod LimitedStations
+pub mod WithoutSubstitute

@@ -31,13 +31,7 @@ use Rattle.log.specs.Log.{planted, cropAnswers, answersTo, readFrom, rea
 use Rattle.log.specs.declared.Outcome.the-variants as outcome
 use Rattle.log.specs.WithoutKind.{recordWithout, readWithout, readingWithout, Without}
 use Rattle.log.proofs.CropFigures.{crop-figures-met}
-use Rattle.log.proofs.Sample.{sample, station, day-there, windless, noMean, oneMean, twoMeans}
-
--- BEAN of 2008, from day 155 to day 255
-abbrev beans : List ℕ
-beans =
-    6 ∷ 66 ∷ 69 ∷ 65 ∷ 78 ∷ 7 ∷ 216 ∷ 0 ∷ 155 ∷ 0 ∷ 255
-    ∷ 20 ∷ 22 ∷ 30 ∷ 45 ∷ 65 ∷ 90 ∷ 105 ∷ 107 ∷ 95 ∷ 60 ∷ 30 ∷ []
+use Rattle.log.proofs.Sample.{sample, station, day-there, windless, beans, noMean, oneMean, twoMeans}
 
 -- day 180 of 2008: 90, 55, 72 and 50 °F, 700 cal/cm²/d, 100 miles
 abbrev summer : List ℕ

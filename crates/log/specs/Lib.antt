@@ -7,5 +7,6 @@ pub mod CropFigures
 pub mod WithoutKind
 pub mod WithoutCrops
 pub mod LimitedStations
+pub mod WithoutSubstitute
 pub mod Carried
 pub mod Passes

@@ -1,0 +1,156 @@
+-- A log with a day without its dew point worked through, byte for byte. Beans hold; the day's answer is of kind 9, and the crop's figure follows it, so
+-- what demand 3 and the crop figures ask can be met by such a day (`crop-day`, `owed`, `crop-owed`). A day that lacks the wind as well stays refused
+-- with 7, and the marked day's mean counts for the day after it (`next-day`). A buffer that was long enough before is now 12 (`was`, `is`). Assumes nothing.
+use mathlib.Core.Path.{_≡_, refl, sym}
+use mathlib.Core.Bool.{true, cond}
+use mathlib.Core.List.{List, [], _∷_, _++_}
+use Prim.Native.Nat.{ℕ}
+use lib.Dec.{ltb}
+use lib.IntN.{pos}
+use lib.ListN.{length, replicate}
+use Rattle.crops.specs.Crop.{badCrop, inSeason, above, cropFigure}
+use Rattle.day.specs.Calendar.{yearLength, isDate}
+use Rattle.day.specs.Judgement.{holds, standingOf, lacksDewPoint, asJudged, judged, Answered}
+use Rattle.day.specs.WithoutSubstitute.{judgedStrictly}
+use Rattle.day.specs.declared.Day.{Day}
+use Rattle.day.specs.declared.Earlier.{Earlier}
+use Rattle.day.specs.declared.Mean.the-variants.{Present}
+use Rattle.day.specs.declared.Refusal.the-variants.{Missing}
+use Rattle.day.specs.declared.Station.{Station}
+use Rattle.day.specs.declared.Verdict.{Verdict}
+use Rattle.day.specs.declared.Verdict.the-variants.{Estimated, Refused}
+use Rattle.day.proofs.Examples.{estimates}
+use Rattle.answers.specs.Answers.{dayAnswer, bytesOf}
+use Rattle.answers.specs.declared.Answer.{Answer}
+use Rattle.answers.specs.declared.Answer.the-variants as answer
+use Rattle.records.specs.Bytes.{wordAt, signedOf, signedAt}
+use Rattle.records.specs.Record.{stationAt, dayAt, cropAt, recordAt}
+use Rattle.log.specs.CropFigures.{CropDay, CropFigureAt, CropFiguresOwed, EveryCropFigure}
+use Rattle.log.specs.Days.{DayAt}
+use Rattle.log.specs.Demand.{AnsweredLog, FigureAt, FiguresOwed}
+use Rattle.log.specs.History.{daysBefore, goodDate, counted, earlierMeans, verdictOf}
+use Rattle.log.specs.Log.{planted, cropAnswers, answersBy, answersTo, readFrom, readingOf, entriesOf, outcomeOf, leaves, bufferAfter}
+use Rattle.log.specs.WithoutSubstitute.{verdictStrictly, answersStrictly, outcomeStrictly}
+use Rattle.log.specs.declared.Outcome.the-variants as outcome
+use Rattle.log.proofs.CropFigures.{crop-figures-met}
+use Rattle.log.proofs.Demand.{log-within-bound}
+use Rattle.log.proofs.Sample.{station, day-there, windless, beans, noMean, oneMean, twoMeans}
+
+-- day 179 of 2008, 71 °F, neither a dew point nor the wind; day 180: 90, 55 and 72 °F, no dew point, 700 cal/cm²/d, 100 miles
+abbrev twoMissing : List ℕ
+twoMissing = 2 ∷ 7 ∷ 216 ∷ 0 ∷ 179 ∷ 2 ∷ 198 ∷ 2 ∷ 198 ∷ 2 ∷ 198 ∷ 128 ∷ 0 ∷ 0 ∷ 0 ∷ 128 ∷ 0 ∷ []
+
+abbrev noDewPoint : List ℕ
+noDewPoint = 2 ∷ 7 ∷ 216 ∷ 0 ∷ 180 ∷ 3 ∷ 132 ∷ 2 ∷ 38 ∷ 2 ∷ 208 ∷ 128 ∷ 0 ∷ 27 ∷ 88 ∷ 3 ∷ 232 ∷ []
+
+abbrev pub estimateLog : List ℕ
+estimateLog = station ++ beans ++ windless 178 2 188 ++ twoMissing ++ noDewPoint ++ windless 181 2 188
+
+-- the means of the three days before day 181: 72 °F is that of the day without a dew point
+abbrev threeMeans : Earlier
+threeMeans = record { one = Present (pos 720); two = Present (pos 710); three = Present (pos 700) }
+
+-- ---- the days with another reading missing are refused, now as before; and before so was day 180
+
+abbrev at : (Station → Day → Earlier → Verdict) → ℕ → Earlier → Verdict
+at judge offset earlier = judge (stationAt estimateLog 1) (dayAt estimateLog offset) earlier
+
+lacking : (at judged 42 noMean ≡ Refused Missing) × (at judged 59 (oneMean 700) ≡ Refused Missing) × (at judged 93 threeMeans ≡ Refused Missing)
+unfolding judged lacksDewPoint asJudged standingOf holds stationAt dayAt wordAt signedOf signedAt isDate yearLength
+lacking = (refl, refl, refl)
+
+lacking-then : (at judgedStrictly 42 noMean ≡ Refused Missing) × (at judgedStrictly 59 (oneMean 700) ≡ Refused Missing)
+    × (at judgedStrictly 76 twoMeans ≡ Refused Missing) × (at judgedStrictly 93 threeMeans ≡ Refused Missing)
+unfolding judgedStrictly standingOf holds stationAt dayAt wordAt signedOf signedAt isDate yearLength
+lacking-then = (refl, refl, refl, refl)
+
+-- ---- the answers, by the verdicts
+
+abbrev sown : ℕ → Verdict → List Answer
+sown offset v = dayAnswer (dayAt estimateLog offset) v ∷ cropAnswers (planted (cropAt estimateLog 20)) (dayAt estimateLog offset) v
+
+abbrev all : Verdict → Verdict → Verdict → Verdict → List Answer
+all v w x y = answer.Station (stationAt estimateLog 1 .code) ∷ (sown 42 v ++ (sown 59 w ++ (sown 76 x ++ (sown 93 y ++ []))))
+
+-- 37.5 per cent of 3,347 ten-thousandths of an inch
+pub worked : answersTo estimateLog ≡
+    answer.Station (stationAt estimateLog 1 .code)
+    ∷ answer.Day 2008 178 (Refused Missing) ∷ answer.Day 2008 179 (Refused Missing) ∷ answer.Day 2008 180 (Estimated 3_347)
+    ∷ answer.Crop (cropAt estimateLog 20 .code) 1_255
+    ∷ answer.Day 2008 181 (Refused Missing)
+    ∷ []
+unfolding readingOf readFrom recordAt stationAt dayAt cropAt wordAt signedOf signedAt isDate yearLength daysBefore goodDate counted earlierMeans verdictOf badCrop inSeason above cropFigure
+worked = λ i. all (lacking .0 i) (lacking .1 i) (estimates .told i) (lacking .2 i)
+
+-- record 4 is an answered day of the beans' season
+pub crop-day : CropDay estimateLog 4 (stationAt estimateLog 1) (dayAt estimateLog 76) twoMeans 23 (cropAt estimateLog 20)
+unfolding readingOf readFrom recordAt stationAt dayAt cropAt wordAt signedOf signedAt isDate yearLength daysBefore goodDate counted earlierMeans verdictOf Answered badCrop inSeason day-there
+crop-day =
+    record {
+      answered = record {
+        at = day-there estimateLog 4
+            (record { station = stationAt estimateLog 1; days = dayAt estimateLog 59 ∷ dayAt estimateLog 42 ∷ []; crop = planted (cropAt estimateLog 20) })
+            (dayAt estimateLog 76) refl refl
+            (sym (λ i. length (bytesOf (answer.Station (stationAt estimateLog 1 .code) ∷ (sown 42 (lacking .0 i) ++ (sown 59 (lacking .1 i) ++ []))))));
+        others = λ r t. estimates .answered r;
+      };
+      holds = refl;
+      season = refl;
+    }
+
+-- record 5 has its mean among the earlier ones
+pub next-day : DayAt estimateLog 5 (stationAt estimateLog 1) (dayAt estimateLog 93) threeMeans true 41
+unfolding readingOf readFrom recordAt stationAt dayAt cropAt wordAt signedOf signedAt isDate yearLength daysBefore goodDate counted earlierMeans verdictOf badCrop inSeason above cropFigure day-there
+next-day =
+    day-there estimateLog 5
+    (record {
+      station = stationAt estimateLog 1;
+      days = dayAt estimateLog 76 ∷ dayAt estimateLog 59 ∷ dayAt estimateLog 42 ∷ [];
+      crop = planted (cropAt estimateLog 20);
+    })
+    (dayAt estimateLog 93) refl refl
+    (sym (λ i. length (bytesOf (answer.Station (stationAt estimateLog 1 .code) ∷ (sown 42 (lacking .0 i) ++ (sown 59 (lacking .1 i) ++ (sown 76 (estimates .told i) ++ [])))))))
+
+-- ---- a buffer of 52 bytes
+
+abbrev lent : List ℕ
+lent = replicate 52 8
+
+-- 50 are needed
+outcome-is : (size : ℕ) → outcomeOf estimateLog size ≡ cond (ltb size 50) (outcome.Refused 12 50) (outcome.Written 50)
+unfolding outcomeOf readingOf readFrom recordAt stationAt dayAt cropAt wordAt signedOf signedAt badCrop
+outcome-is size = λ i. let n = length (bytesOf (worked i)) in cond (ltb size n) (outcome.Refused 12 n) (outcome.Written n)
+
+-- so every hypothesis is met, and what is owed holds of this day
+pub owed : FigureAt (stationAt estimateLog 1) (dayAt estimateLog 76) twoMeans 23 (bufferAfter estimateLog lent)
+unfolding FiguresOwed AnsweredLog
+owed = log-within-bound estimateLog lent (50, outcome-is 52) 4 23 (stationAt estimateLog 1) (dayAt estimateLog 76) twoMeans (crop-day .answered)
+
+pub crop-owed : CropFigureAt (stationAt estimateLog 1) (dayAt estimateLog 76) twoMeans 23 (cropAt estimateLog 20) (bufferAfter estimateLog lent)
+unfolding EveryCropFigure CropFiguresOwed AnsweredLog
+crop-owed = crop-figures-met estimateLog lent (50, outcome-is 52) 4 23 (stationAt estimateLog 1) (dayAt estimateLog 76) twoMeans (cropAt estimateLog 20) crop-day
+
+-- the last two bytes are as they were
+pub bytes : bufferAfter estimateLog lent ≡
+    5 ∷ 76 ∷ 73 ∷ 68 ∷ 87
+    ∷ 4 ∷ 7 ∷ 216 ∷ 0 ∷ 178 ∷ 0 ∷ 0 ∷ 0 ∷ 7
+    ∷ 4 ∷ 7 ∷ 216 ∷ 0 ∷ 179 ∷ 0 ∷ 0 ∷ 0 ∷ 7
+    ∷ 9 ∷ 7 ∷ 216 ∷ 0 ∷ 180 ∷ 0 ∷ 0 ∷ 13 ∷ 19
+    ∷ 7 ∷ 66 ∷ 69 ∷ 65 ∷ 78 ∷ 0 ∷ 0 ∷ 4 ∷ 231
+    ∷ 4 ∷ 7 ∷ 216 ∷ 0 ∷ 181 ∷ 0 ∷ 0 ∷ 0 ∷ 7
+    ∷ 8 ∷ 8 ∷ []
+unfolding bufferAfter stationAt cropAt
+bytes = λ i. leaves (outcome-is 52 i) (bytesOf (worked i)) lent
+
+-- ---- a buffer of 41 bytes was enough, and is not now
+
+then-worked : answersBy answersStrictly (entriesOf (readingOf estimateLog)) ≡ all (Refused Missing) (Refused Missing) (Refused Missing) (Refused Missing)
+unfolding readingOf readFrom recordAt stationAt dayAt cropAt wordAt signedOf signedAt isDate yearLength daysBefore goodDate counted earlierMeans verdictStrictly badCrop inSeason above cropFigure
+then-worked = λ i. all (lacking-then .0 i) (lacking-then .1 i) (lacking-then .2 i) (lacking-then .3 i)
+
+pub was : outcomeStrictly estimateLog 41 ≡ outcome.Written 41
+unfolding outcomeStrictly readingOf readFrom recordAt stationAt dayAt cropAt wordAt signedOf signedAt badCrop
+was = λ i. let n = length (bytesOf (then-worked i)) in cond (ltb 41 n) (outcome.Refused 12 n) (outcome.Written n)
+
+pub is : outcomeOf estimateLog 41 ≡ outcome.Refused 12 50
+is = outcome-is 41
