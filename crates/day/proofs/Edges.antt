@@ -9,7 +9,7 @@ use Rattle.sheet.specs.Limits.{routineLimit}
 use Rattle.sheet.specs.StepSheet as sheet
 use Rattle.day.specs.Calendar.{yearLength, isDate}
 use Rattle.day.specs.Rules.{numberOf}
-use Rattle.day.specs.Judgement.{clearOf, holds, firstOf, standingOf}
+use Rattle.day.specs.Judgement.{clearOf, holds, firstOf, standingOf, lacksDewPoint, asJudged}
 use Rattle.day.specs.declared.Station.{Station}
 use Rattle.day.specs.declared.Day.{Day}
 use Rattle.day.specs.declared.Mean.{Mean}
@@ -27,18 +27,19 @@ abbrev numberIn : Standing → ℕ
 numberIn (standing.Refused r) = numberOf r
 numberIn standing.Answered = 0
 
--- the number of the first of 3 and 6 to 10 that holds, 0 for none. Refusal 11 wants the pressure, which is a search and is not computed.
+-- the number of the first of 3 and 6 to 10 that holds of the day as it is judged, 0 for none. Refusal 11 wants the pressure, which is a search and is
+-- not computed.
 abbrev refusedWith : Station → Day → Earlier → ℕ
 refusedWith st day earlier =
-    numberIn (firstOf (StationField ∷ BadDate ∷ Missing ∷ OutOfRange ∷ OutOfOrder ∷ AboveClear ∷ []) (λ r. holds r st day earlier))
+    numberIn (firstOf (StationField ∷ BadDate ∷ Missing ∷ OutOfRange ∷ OutOfOrder ∷ AboveClear ∷ []) (λ r. holds r st (asJudged day) earlier))
 
 -- a day that is so refused is judged with that number
 refused-is-judged : (st : Station) (day : Day) (earlier : Earlier) (n : ℕ) → refusedWith st day earlier ≡ suc n →
-    numberIn (standingOf st day earlier) ≡ suc n
+    numberIn (standingOf st (asJudged day) earlier) ≡ suc n
 unfolding standingOf
 refused-is-judged st day earlier n e =
-    ap numberIn (first-then (StationField ∷ BadDate ∷ Missing ∷ OutOfRange ∷ OutOfOrder ∷ AboveClear ∷ []) (SumBelowOne ∷ []) (λ r. holds r st day earlier))
-    ∙ stays (firstOf (StationField ∷ BadDate ∷ Missing ∷ OutOfRange ∷ OutOfOrder ∷ AboveClear ∷ []) (λ r. holds r st day earlier)) _ e
+    ap numberIn (first-then (StationField ∷ BadDate ∷ Missing ∷ OutOfRange ∷ OutOfOrder ∷ AboveClear ∷ []) (SumBelowOne ∷ []) (λ r. holds r st (asJudged day) earlier))
+    ∙ stays (firstOf (StationField ∷ BadDate ∷ Missing ∷ OutOfRange ∷ OutOfOrder ∷ AboveClear ∷ []) (λ r. holds r st (asJudged day) earlier)) _ e
   where
     stays : (s t : Standing) → numberIn s ≡ suc n → numberIn (orElse s t) ≡ suc n
     stays (standing.Refused r) t e = e
@@ -119,6 +120,10 @@ withRadiation z = reading (pos 900) (pos 550) (pos 720) (pos 500) z (pos 1_000)
 abbrev withWind : ℤ → Day
 withWind z = reading (pos 900) (pos 550) (pos 720) (pos 500) (pos 7_000) z
 
+-- without a dew point: maximum, minimum, mean, radiation and wind
+abbrev withoutDewpoint : ℤ → ℤ → ℤ → ℤ → ℤ → Day
+withoutDewpoint maximum minimum mean radiation wind = reading maximum minimum mean (negsuc 32_767) radiation wind
+
 abbrev means : Mean → Mean → Mean → Earlier
 means one two three = record { one = one; two = two; three = three }
 
@@ -172,19 +177,30 @@ table =
     ∷ (onDay (dated 2007 365) gives 0)
     ∷ (onDay (dated 2007 366) gives 6)
     ∷ (onDay (dated 2000 366) gives 0)
-    -- 7: the mark -32,768 in each of the six readings; -32,767 is a number, out of range
+    -- 7: the mark -32,768 in each reading but the dew point; -32,767 is a number, out of range
     ∷ (onDay (withMaximum (negsuc 32_767)) gives 7)
     ∷ (onDay (withMaximum (negsuc 32_766)) gives 8)
     ∷ (onDay (withMinimum (negsuc 32_767)) gives 7)
     ∷ (onDay (withMinimum (negsuc 32_766)) gives 8)
     ∷ (onDay (withMean (negsuc 32_767)) gives 7)
     ∷ (onDay (withMean (negsuc 32_766)) gives 8)
-    ∷ (onDay (withDewpoint (negsuc 32_767)) gives 7)
+    ∷ (onDay (withDewpoint (negsuc 32_767)) gives 0)
     ∷ (onDay (withDewpoint (negsuc 32_766)) gives 8)
     ∷ (onDay (withRadiation (negsuc 32_767)) gives 7)
     ∷ (onDay (withRadiation (negsuc 32_766)) gives 8)
     ∷ (onDay (withWind (negsuc 32_767)) gives 7)
     ∷ (onDay (withWind (negsuc 32_766)) gives 8)
+    -- 7: the same beside a missing dew point
+    ∷ (onDay (withoutDewpoint (negsuc 32_767) (pos 550) (pos 720) (pos 7_000) (pos 1_000)) gives 7)
+    ∷ (onDay (withoutDewpoint (pos 900) (negsuc 32_767) (pos 720) (pos 7_000) (pos 1_000)) gives 7)
+    ∷ (onDay (withoutDewpoint (pos 900) (pos 550) (negsuc 32_767) (pos 7_000) (pos 1_000)) gives 7)
+    ∷ (onDay (withoutDewpoint (pos 900) (pos 550) (pos 720) (negsuc 32_767) (pos 1_000)) gives 7)
+    ∷ (onDay (withoutDewpoint (pos 900) (pos 550) (pos 720) (pos 7_000) (negsuc 32_767)) gives 7)
+    -- 8 and 9 where the dew point alone is missing: the minimum beyond its range, and above the mean
+    ∷ (onDay (withoutDewpoint (pos 900) (negsuc 93) (pos 720) (pos 7_000) (pos 1_000)) gives 0)
+    ∷ (onDay (withoutDewpoint (pos 900) (negsuc 94) (pos 720) (pos 7_000) (pos 1_000)) gives 8)
+    ∷ (onDay (withoutDewpoint (pos 900) (pos 720) (pos 720) (pos 7_000) (pos 1_000)) gives 0)
+    ∷ (onDay (withoutDewpoint (pos 900) (pos 721) (pos 720) (pos 7_000) (pos 1_000)) gives 9)
     -- 8: all readings at the low and at the high ends of their ranges, and each beyond one of them
     ∷ (onDay (reading (negsuc 93) (negsuc 93) (negsuc 93) (negsuc 93) (pos 0) (pos 0)) gives 0)
     ∷ (onDay (reading (pos 1_291) (pos 1_291) (pos 1_291) (pos 1_291) (pos 12_000) (pos 9_999)) gives 0)
@@ -229,5 +245,5 @@ table =
     ∷ []
 
 edges : map given table ≡ map written table
-unfolding holds isDate yearLength clearOf sheet.clearSum sheet.Q sheet.aboveTwiceClear
+unfolding lacksDewPoint asJudged holds isDate yearLength clearOf sheet.clearSum sheet.Q sheet.aboveTwiceClear
 edges = refl
