@@ -2,6 +2,7 @@
 pub mod Tests
 pub mod Passed
 pub mod Standings
+pub mod Marks
 pub mod DayBound
 pub mod FigureLimit
 pub mod Edges

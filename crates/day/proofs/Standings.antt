@@ -77,7 +77,11 @@ module _ (st : Station) (day : Day) (earlier : Earlier) where
       each h AboveClear = h .1 .1 .1 .1 .1 .0
       each h SumBelowOne = h .1 .1 .1 .1 .1 .1 .0
 
-  -- the day as it is judged has the figure, and the mark is the day's own
+  -- what is told of the day as it is judged, by whatever has that day
+  pub stands-as-judged : {s : Standing} {y : Day} → s ≡ standingOf st y earlier → y ≡ asJudged day → s ≡ standingOf st (asJudged day) earlier
+  stands-as-judged told same = told ∙ ap (λ (y : Day). standingOf st y earlier) same
+
+  -- that day has the figure, and the mark is the day's own
   pub answered-figure : Answered st (asJudged day) earlier → judged st day earlier ≡ withMark day (figureOf st (asJudged day) earlier)
   unfolding judged standingOf Answered
   answered-figure answered =

@@ -1,12 +1,12 @@
 -- What has become of each day's verdict since the minimum stands for a missing dew point. The theorem is `since`. Assumes nothing.
 use mathlib.Core.Bool.{Bool, true, false, not, cond}
-use mathlib.Core.List.{List, [], _∷_}
+use mathlib.Core.List.{[], _∷_}
 use mathlib.Core.Logic.{_≢_}
 use mathlib.Core.Path.{_≡_, refl, sym, ap, subst, _∙_}
 use lib.Dec.{T}
 use Rattle.day.specs.Calendar.{isDate}
 use Rattle.day.specs.Rules.{anyOf, badStation, isMissing, otherMarks}
-use Rattle.day.specs.Judgement.{figureOf, holds, firstOf, standingOf, lacksDewPoint, asJudged, withMark, verdictWith, judged}
+use Rattle.day.specs.Judgement.{figureOf, holds, firstOf, standingOf, lacksDewPoint, withDewPoint, asJudged, withMark, verdictWith, judged}
 use Rattle.day.specs.WithoutSubstitute.{judgedStrictly, withMinimum, estimated, Since}
 use Rattle.day.specs.declared.Station.{Station}
 use Rattle.day.specs.declared.Day.{Day}
@@ -20,30 +20,9 @@ use Rattle.day.specs.declared.Verdict.the-variants.{Figure, Refused, Est
 
 -- ---- the day as it is judged
 
-judged-with : (x : Day) {lacks : Bool} → lacksDewPoint x ≡ lacks → asJudged x
-    ≡ record {
-      year = x .year;
-      d = x .d;
-      maximum = x .maximum;
-      minimum = x .minimum;
-      mean = x .mean;
-      dewpoint = cond lacks (x .minimum) (x .dewpoint);
-      radiation = x .radiation;
-      wind = x .wind;
-    }
+judged-with : (x : Day) {lacks : Bool} → lacksDewPoint x ≡ lacks → asJudged x ≡ withDewPoint x (cond lacks (x .minimum) (x .dewpoint))
 unfolding asJudged
-judged-with x e =
-    λ i.
-    record {
-      year = x .year;
-      d = x .d;
-      maximum = x .maximum;
-      minimum = x .minimum;
-      mean = x .mean;
-      dewpoint = cond (e i) (x .minimum) (x .dewpoint);
-      radiation = x .radiation;
-      wind = x .wind;
-    }
+judged-with x e = ap (λ (lacks : Bool). withDewPoint x (cond lacks (x .minimum) (x .dewpoint))) e
 
 -- ---- the tests before 7, and 7 itself
 

@@ -120,20 +120,24 @@ standingOf st x earlier = firstOf inOrder (λ r. holds r st x earlier)
 unfoldable pub lacksDewPoint : Day → Bool
 lacksDewPoint x = cond (isMissing (x .dewpoint)) (not (anyOf (otherMarks (x .maximum) (x .minimum) (x .mean) (x .radiation) (x .wind)))) false
 
--- "the minimum temperature now takes its place": the day as it is judged. No reading of it is tested before, so that 7 "remains for any other missing
--- reading", and 8 and 9 are those of the substitute.
-unfoldable pub asJudged : Day → Day
-asJudged x =
+-- a day with another dew point
+abbrev pub withDewPoint : Day → ℤ → Day
+withDewPoint x dewpoint =
     record {
       year = x .year;
       d = x .d;
       maximum = x .maximum;
       minimum = x .minimum;
       mean = x .mean;
-      dewpoint = cond (lacksDewPoint x) (x .minimum) (x .dewpoint);
+      dewpoint = dewpoint;
       radiation = x .radiation;
       wind = x .wind;
     }
+
+-- "the minimum temperature now takes its place": the day as it is judged. All refusals are asked of this day. The other readings are as they were, so
+-- that 7 "remains for any other missing reading".
+unfoldable pub asJudged : Day → Day
+asJudged x = withDewPoint x (cond (lacksDewPoint x) (x .minimum) (x .dewpoint))
 
 -- "gets its figure with a mark"
 unfoldable pub withMark : Day → ℕ → Verdict

@@ -1,9 +1,9 @@
--- A day as it was judged before document 02, W4: a missing dew point refused it with 7, as any other missing reading does. What has become of that
--- verdict (`since` in proofs/WithoutSubstitute.antt). Assumes nothing.
+-- A day as it was judged before document 02, W4, that is, strictly: a missing dew point refused it with 7, as any other missing reading does. What has
+-- become of that verdict (`since` in proofs/WithoutSubstitute.antt). Assumes nothing.
 use mathlib.Core.Bool.{true, false}
 use mathlib.Core.Logic.{_≢_}
 use mathlib.Core.Path.{_≡_}
-use Rattle.day.specs.Judgement.{figureOf, standingOf, lacksDewPoint, verdictWith, judged}
+use Rattle.day.specs.Judgement.{figureOf, standingOf, lacksDewPoint, withDewPoint, verdictWith, judged}
 use Rattle.day.specs.declared.Station.{Station}
 use Rattle.day.specs.declared.Day.{Day}
 use Rattle.day.specs.declared.Earlier.{Earlier}
@@ -16,17 +16,7 @@ judgedStrictly st x earlier = verdictWith (standingOf st x earlier) (Figure (fig
 
 -- the same day with the minimum for its dew point
 abbrev pub withMinimum : Day → Day
-withMinimum x =
-    record {
-      year = x .year;
-      d = x .d;
-      maximum = x .maximum;
-      minimum = x .minimum;
-      mean = x .mean;
-      dewpoint = x .minimum;
-      radiation = x .radiation;
-      wind = x .wind;
-    }
+withMinimum x = withDewPoint x (x .minimum)
 
 -- a verdict with the mark on its figure
 abbrev pub estimated : Verdict → Verdict

@@ -1,4 +1,5 @@
-// A day judged: what refuses it, or else its figure, with the mark where the minimum stands for its dew point. `judge` is a day handed in alone, and asks nothing of its caller.
+// A day judged: what refuses it, or else its figure, with the mark where the minimum stands for its dew point. `judge` is a day handed in alone, and
+// asks nothing of its caller.
 ghost use mathlib.Core.Path.{_≡_};
 ghost use Rattle.tables.specs.Tables.{DayTables, PressureTable};
 ghost use Rattle.day.specs.Bound.{FigureOwed, FigureInRange};

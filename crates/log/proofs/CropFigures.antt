@@ -1,7 +1,7 @@
 -- What is promised of crop figures holds of what is read of a log. The theorem is `crop-figures-met`. The bound follows from the day's own and from the
 -- one rounding: nothing of the sheet is used. Assumes nothing.
 use mathlib.Core.Path.{_≡_, refl, sym, ap, _∙_, subst}
-use mathlib.Core.Bool.{Bool, true, false, cond}
+use mathlib.Core.Bool.{Bool, false, cond}
 use mathlib.Core.List.{List, [], _∷_}
 use Prim.Native.Nat.{ℕ}
 use Rattle.crops.specs.Crop.{badCrop, cropFigure}
@@ -9,13 +9,13 @@ use Rattle.crops.specs.declared.Crop.{Crop}
 use Rattle.crops.proofs.CropBound.{crop-within-bound, crop-within-proved}
 use Rattle.crops.proofs.CropFigure.{twice-most}
 use Rattle.day.specs.Bound.{Within, WithinBound, provedBound, FigureOwed, JudgesWithinBound}
-use Rattle.day.specs.Judgement.{lacksDewPoint, asJudged, withMark, judged}
+use Rattle.day.specs.Judgement.{asJudged, withMark, judged}
 use Rattle.day.specs.declared.Day.{Day}
 use Rattle.day.specs.declared.Earlier.{Earlier}
 use Rattle.day.specs.declared.Station.{Station}
 use Rattle.day.specs.declared.Verdict.{Verdict}
-use Rattle.day.specs.declared.Verdict.the-variants.{Figure, Estimated}
 use Rattle.day.proofs.DayBound.{judged-within-bound, judged-within-proved}
+use Rattle.day.proofs.Marks.{either-way}
 use Rattle.answers.specs.Answers.{valueOf, dayAnswer, answerBytes}
 use Rattle.answers.specs.declared.Answer.{Answer}
 use Rattle.answers.specs.declared.Answer.the-variants as answer
@@ -29,21 +29,11 @@ use Rattle.log.proofs.Stations.{station-sound, station-constants, crop-
 
 -- a mark hides no figure
 one-figure : (x : Day) {n m : ℕ} → withMark x n ≡ withMark x m → n ≡ m
-unfolding withMark
-one-figure x {n} {m} e = by (lacksDewPoint x) e
-  where
-    by : (lacks : Bool) → cond lacks (Estimated n) (Figure n) ≡ cond lacks (Estimated m) (Figure m) → n ≡ m
-    by true e = ap valueOf e
-    by false e = ap valueOf e
+one-figure x {n} {m} e = sym (either-way (λ v. valueOf v ≡ n) x refl refl) ∙ ap valueOf e ∙ either-way (λ v. valueOf v ≡ m) x refl refl
 
 -- and a crop's answer is the same with it
 marked-alike : (c : Crop) (x : Day) (n : ℕ) → cropAnswers (planted c) x (withMark x n) ≡ cropAnswer c x n
-unfolding withMark
-marked-alike c x n = by (lacksDewPoint x)
-  where
-    by : (lacks : Bool) → cropAnswers (planted c) x (cond lacks (Estimated n) (Figure n)) ≡ cropAnswer c x n
-    by true = refl
-    by false = refl
+marked-alike c x n = either-way (λ v. cropAnswers (planted c) x v ≡ cropAnswer c x n) x refl refl
 
 module _ {s : List ℕ} {i : ℕ} {st : Station} {x : Day} {earlier : Earlier} {place : ℕ} {c : Crop} (d : CropDay s i st x earlier place c) where
   -- the day's figure, with both its bounds

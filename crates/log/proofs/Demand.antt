@@ -1,18 +1,18 @@
 -- Demand 3, entire: what is read of a log, and what is judged of a day handed in alone, meet it. The theorem is `demand-met`. Assumes nothing.
 use mathlib.Core.Path.{_≡_, refl, ap, _∙_}
-use mathlib.Core.Bool.{Bool, true, false, not, cond}
+use mathlib.Core.Bool.{false, not}
 use mathlib.Core.List.{List}
 use Prim.Native.Nat.{ℕ}
 use Rattle.day.specs.Bound.{WithinBound, FigureOwed, JudgesWithinBound}
-use Rattle.day.specs.Judgement.{holds, Answered, lacksDewPoint, asJudged, withMark, judged}
+use Rattle.day.specs.Judgement.{holds, Answered, asJudged, withMark, judged}
 use Rattle.day.specs.declared.Day.{Day}
 use Rattle.day.specs.declared.Earlier.{Earlier}
 use Rattle.day.specs.declared.Refusal.{Refusal}
 use Rattle.day.specs.declared.Refusal.the-variants.{StationField, BadDate, Missing, OutOfRange, OutOfOrder, AboveClear, SumBelowOne}
 use Rattle.day.specs.declared.Station.{Station}
 use Rattle.day.specs.declared.Verdict.{Verdict}
-use Rattle.day.specs.declared.Verdict.the-variants.{Figure, Estimated}
 use Rattle.day.proofs.DayBound.{judged-within-bound}
+use Rattle.day.proofs.Marks.{either-way}
 use Rattle.answers.specs.Answers.{kindOf, valueOf, dated, dayAnswer, answerBytes}
 use Rattle.log.specs.Demand.{AnsweredLog, AnsweredDay, FigureAt, FiguresOwed, EveryFigureWithinBound}
 use Rattle.log.specs.Log.{bufferAfter}
@@ -21,12 +21,7 @@ use Rattle.log.proofs.Stations.{station-sound, station-constants}
 
 -- the mark changes an answer's kind and not its figure
 pub marked-bytes : (x : Day) (n : ℕ) → answerBytes (dayAnswer x (withMark x n)) ≡ dated (kindOf (withMark x n)) (x .year) (x .d) n
-unfolding withMark
-marked-bytes x n = ap (dated (kindOf (withMark x n)) (x .year) (x .d)) (value (lacksDewPoint x))
-  where
-    value : (lacks : Bool) → valueOf (cond lacks (Estimated n) (Figure n)) ≡ n
-    value true = refl
-    value false = refl
+marked-bytes x n = ap (dated (kindOf (withMark x n)) (x .year) (x .d)) (either-way (λ v. valueOf v ≡ n) x refl refl)
 
 module _ {s : List ℕ} {i : ℕ} {st : Station} {x : Day} {earlier : Earlier} {place : ℕ} (d : AnsweredDay s i st x earlier place) where
   -- a log with a faulty station is refused, and a good date is one of the calendar: so none of the refusals holds

@@ -1,7 +1,8 @@
 -- A log with a day without its dew point worked through, byte for byte. Beans hold; the day's answer is of kind 9, and the crop's figure follows it, so
 -- what demand 3 and the crop figures ask can be met by such a day (`crop-day`, `owed`, `crop-owed`). A day that lacks the wind as well stays refused
--- with 7, and the marked day's mean counts for the day after it (`next-day`). A buffer that was long enough before is now 12 (`was`, `is`). Assumes nothing.
-use mathlib.Core.Path.{_≡_, refl, sym}
+-- with 7, and the marked day's mean counts for the day after it (`next-day`). Document 01's log stands behind, and its answers are nine bytes further
+-- back than they were (`bytes`, `then-bytes`). A buffer that was long enough is now 12 (`was`, `is`). Assumes nothing.
+use mathlib.Core.Path.{_≡_, refl, sym, _∙_}
 use mathlib.Core.Bool.{true, cond}
 use mathlib.Core.List.{List, [], _∷_, _++_}
 use Prim.Native.Nat.{ℕ}
@@ -14,12 +15,13 @@ use Rattle.day.specs.Judgement.{holds, standingOf, lacksDewPoint, asJudged, jud
 use Rattle.day.specs.WithoutSubstitute.{judgedStrictly}
 use Rattle.day.specs.declared.Day.{Day}
 use Rattle.day.specs.declared.Earlier.{Earlier}
-use Rattle.day.specs.declared.Mean.the-variants.{Present}
+use Rattle.day.specs.declared.Mean.the-variants.{Present, Absent}
 use Rattle.day.specs.declared.Refusal.the-variants.{Missing}
 use Rattle.day.specs.declared.Station.{Station}
 use Rattle.day.specs.declared.Verdict.{Verdict}
-use Rattle.day.specs.declared.Verdict.the-variants.{Estimated, Refused}
-use Rattle.day.proofs.Examples.{estimates}
+use Rattle.day.specs.declared.Verdict.the-variants.{Figure, Refused, Estimated}
+use Rattle.day.proofs.Examples.{days, estimates}
+use Rattle.day.proofs.WithoutSubstitute.{since}
 use Rattle.answers.specs.Answers.{dayAnswer, bytesOf}
 use Rattle.answers.specs.declared.Answer.{Answer}
 use Rattle.answers.specs.declared.Answer.the-variants as answer
@@ -30,11 +32,11 @@ use Rattle.log.specs.Days.{DayAt}
 use Rattle.log.specs.Demand.{AnsweredLog, FigureAt, FiguresOwed}
 use Rattle.log.specs.History.{daysBefore, goodDate, counted, earlierMeans, verdictOf}
 use Rattle.log.specs.Log.{planted, cropAnswers, answersBy, answersTo, readFrom, readingOf, entriesOf, outcomeOf, leaves, bufferAfter}
-use Rattle.log.specs.WithoutSubstitute.{verdictStrictly, answersStrictly, outcomeStrictly}
+use Rattle.log.specs.WithoutSubstitute.{verdictStrictly, answersStrictly, outcomeStrictly, bufferStrictly}
 use Rattle.log.specs.declared.Outcome.the-variants as outcome
 use Rattle.log.proofs.CropFigures.{crop-figures-met}
 use Rattle.log.proofs.Demand.{log-within-bound}
-use Rattle.log.proofs.Sample.{station, day-there, windless, beans, noMean, oneMean, twoMeans}
+use Rattle.log.proofs.Sample.{sample, station, day-there, windless, beans, noMean, oneMean, twoMeans}
 
 -- day 179 of 2008, 71 °F, neither a dew point nor the wind; day 180: 90, 55 and 72 °F, no dew point, 700 cal/cm²/d, 100 miles
 abbrev twoMissing : List ℕ
@@ -44,7 +46,7 @@ abbrev noDewPoint : List ℕ
 noDewPoint = 2 ∷ 7 ∷ 216 ∷ 0 ∷ 180 ∷ 3 ∷ 132 ∷ 2 ∷ 38 ∷ 2 ∷ 208 ∷ 128 ∷ 0 ∷ 27 ∷ 88 ∷ 3 ∷ 232 ∷ []
 
 abbrev pub estimateLog : List ℕ
-estimateLog = station ++ beans ++ windless 178 2 188 ++ twoMissing ++ noDewPoint ++ windless 181 2 188
+estimateLog = station ++ beans ++ windless 178 2 188 ++ twoMissing ++ noDewPoint ++ windless 181 2 188 ++ sample
 
 -- the means of the three days before day 181: 72 °F is that of the day without a dew point
 abbrev threeMeans : Earlier
@@ -56,21 +58,35 @@ abbrev at : (Station → Day → Earlier → Verdict) → ℕ → Earlier → Ve
 at judge offset earlier = judge (stationAt estimateLog 1) (dayAt estimateLog offset) earlier
 
 lacking : (at judged 42 noMean ≡ Refused Missing) × (at judged 59 (oneMean 700) ≡ Refused Missing) × (at judged 93 threeMeans ≡ Refused Missing)
+    × (at judged 129 noMean ≡ Refused Missing) × (at judged 146 (oneMean 200) ≡ Refused Missing)
 unfolding judged lacksDewPoint asJudged standingOf holds stationAt dayAt wordAt signedOf signedAt isDate yearLength
-lacking = (refl, refl, refl)
+lacking = (refl, refl, refl, refl, refl)
 
 lacking-then : (at judgedStrictly 42 noMean ≡ Refused Missing) × (at judgedStrictly 59 (oneMean 700) ≡ Refused Missing)
     × (at judgedStrictly 76 twoMeans ≡ Refused Missing) × (at judgedStrictly 93 threeMeans ≡ Refused Missing)
+    × (at judgedStrictly 129 noMean ≡ Refused Missing) × (at judgedStrictly 146 (oneMean 200) ≡ Refused Missing)
 unfolding judgedStrictly standingOf holds stationAt dayAt wordAt signedOf signedAt isDate yearLength
-lacking-then = (refl, refl, refl, refl)
+lacking-then = (refl, refl, refl, refl, refl, refl)
+
+-- day 12 of document 01's log had the figure that it has
+answered-then : at judgedStrictly 163 (record { one = Present (pos 200); two = Present (pos 200); three = Absent }) ≡ Figure 0
+unfolding lacksDewPoint stationAt dayAt wordAt signedOf signedAt
+answered-then = sym (since (stationAt estimateLog 1) (dayAt estimateLog 163) _ .remains refl) ∙ days .0 .told
 
 -- ---- the answers, by the verdicts
 
 abbrev sown : ℕ → Verdict → List Answer
 sown offset v = dayAnswer (dayAt estimateLog offset) v ∷ cropAnswers (planted (cropAt estimateLog 20)) (dayAt estimateLog offset) v
 
-abbrev all : Verdict → Verdict → Verdict → Verdict → List Answer
-all v w x y = answer.Station (stationAt estimateLog 1 .code) ∷ (sown 42 v ++ (sown 59 w ++ (sown 76 x ++ (sown 93 y ++ []))))
+-- those of document 01's log
+abbrev bare-days : Verdict → Verdict → Verdict → List Answer
+bare-days v w x =
+    answer.Station (stationAt estimateLog 110 .code)
+    ∷ dayAnswer (dayAt estimateLog 129) v ∷ dayAnswer (dayAt estimateLog 146) w ∷ dayAnswer (dayAt estimateLog 163) x ∷ []
+
+abbrev all : Verdict → Verdict → Verdict → Verdict → Verdict → Verdict → Verdict → List Answer
+all t u v w x y z =
+    answer.Station (stationAt estimateLog 1 .code) ∷ (sown 42 t ++ (sown 59 u ++ (sown 76 v ++ (sown 93 w ++ bare-days x y z))))
 
 -- 37.5 per cent of 3,347 ten-thousandths of an inch
 pub worked : answersTo estimateLog ≡
@@ -78,9 +94,11 @@ pub worked : answersTo estimateLog ≡
     ∷ answer.Day 2008 178 (Refused Missing) ∷ answer.Day 2008 179 (Refused Missing) ∷ answer.Day 2008 180 (Estimated 3_347)
     ∷ answer.Crop (cropAt estimateLog 20 .code) 1_255
     ∷ answer.Day 2008 181 (Refused Missing)
+    ∷ answer.Station (stationAt estimateLog 1 .code)
+    ∷ answer.Day 2008 10 (Refused Missing) ∷ answer.Day 2008 11 (Refused Missing) ∷ answer.Day 2008 12 (Figure 0)
     ∷ []
 unfolding readingOf readFrom recordAt stationAt dayAt cropAt wordAt signedOf signedAt isDate yearLength daysBefore goodDate counted earlierMeans verdictOf badCrop inSeason above cropFigure
-worked = λ i. all (lacking .0 i) (lacking .1 i) (estimates .told i) (lacking .2 i)
+worked = λ i. all (lacking .0 i) (lacking .1 i) (estimates .told i) (lacking .2 i) (lacking .3 i) (lacking .4 i) (days .0 .told i)
 
 -- record 4 is an answered day of the beans' season
 pub crop-day : CropDay estimateLog 4 (stationAt estimateLog 1) (dayAt estimateLog 76) twoMeans 23 (cropAt estimateLog 20)
@@ -111,24 +129,24 @@ next-day =
     (dayAt estimateLog 93) refl refl
     (sym (λ i. length (bytesOf (answer.Station (stationAt estimateLog 1 .code) ∷ (sown 42 (lacking .0 i) ++ (sown 59 (lacking .1 i) ++ (sown 76 (estimates .told i) ++ [])))))))
 
--- ---- a buffer of 52 bytes
+-- ---- a buffer of 84 bytes
 
 abbrev lent : List ℕ
-lent = replicate 52 8
+lent = replicate 84 8
 
--- 50 are needed
-outcome-is : (size : ℕ) → outcomeOf estimateLog size ≡ cond (ltb size 50) (outcome.Refused 12 50) (outcome.Written 50)
+-- 82 are needed
+outcome-is : (size : ℕ) → outcomeOf estimateLog size ≡ cond (ltb size 82) (outcome.Refused 12 82) (outcome.Written 82)
 unfolding outcomeOf readingOf readFrom recordAt stationAt dayAt cropAt wordAt signedOf signedAt badCrop
 outcome-is size = λ i. let n = length (bytesOf (worked i)) in cond (ltb size n) (outcome.Refused 12 n) (outcome.Written n)
 
 -- so every hypothesis is met, and what is owed holds of this day
 pub owed : FigureAt (stationAt estimateLog 1) (dayAt estimateLog 76) twoMeans 23 (bufferAfter estimateLog lent)
 unfolding FiguresOwed AnsweredLog
-owed = log-within-bound estimateLog lent (50, outcome-is 52) 4 23 (stationAt estimateLog 1) (dayAt estimateLog 76) twoMeans (crop-day .answered)
+owed = log-within-bound estimateLog lent (82, outcome-is 84) 4 23 (stationAt estimateLog 1) (dayAt estimateLog 76) twoMeans (crop-day .answered)
 
 pub crop-owed : CropFigureAt (stationAt estimateLog 1) (dayAt estimateLog 76) twoMeans 23 (cropAt estimateLog 20) (bufferAfter estimateLog lent)
 unfolding EveryCropFigure CropFiguresOwed AnsweredLog
-crop-owed = crop-figures-met estimateLog lent (50, outcome-is 52) 4 23 (stationAt estimateLog 1) (dayAt estimateLog 76) twoMeans (cropAt estimateLog 20) crop-day
+crop-owed = crop-figures-met estimateLog lent (82, outcome-is 84) 4 23 (stationAt estimateLog 1) (dayAt estimateLog 76) twoMeans (cropAt estimateLog 20) crop-day
 
 -- the last two bytes are as they were
 pub bytes : bufferAfter estimateLog lent ≡
@@ -138,19 +156,45 @@ pub bytes : bufferAfter estimateLog lent ≡
     ∷ 9 ∷ 7 ∷ 216 ∷ 0 ∷ 180 ∷ 0 ∷ 0 ∷ 13 ∷ 19
     ∷ 7 ∷ 66 ∷ 69 ∷ 65 ∷ 78 ∷ 0 ∷ 0 ∷ 4 ∷ 231
     ∷ 4 ∷ 7 ∷ 216 ∷ 0 ∷ 181 ∷ 0 ∷ 0 ∷ 0 ∷ 7
+    ∷ 5 ∷ 76 ∷ 73 ∷ 68 ∷ 87
+    ∷ 4 ∷ 7 ∷ 216 ∷ 0 ∷ 10 ∷ 0 ∷ 0 ∷ 0 ∷ 7
+    ∷ 4 ∷ 7 ∷ 216 ∷ 0 ∷ 11 ∷ 0 ∷ 0 ∷ 0 ∷ 7
+    ∷ 3 ∷ 7 ∷ 216 ∷ 0 ∷ 12 ∷ 0 ∷ 0 ∷ 0 ∷ 0
     ∷ 8 ∷ 8 ∷ []
 unfolding bufferAfter stationAt cropAt
-bytes = λ i. leaves (outcome-is 52 i) (bytesOf (worked i)) lent
+bytes = λ i. leaves (outcome-is 84 i) (bytesOf (worked i)) lent
 
--- ---- a buffer of 41 bytes was enough, and is not now
+-- ---- 73 bytes were needed before
 
-then-worked : answersBy answersStrictly (entriesOf (readingOf estimateLog)) ≡ all (Refused Missing) (Refused Missing) (Refused Missing) (Refused Missing)
+then-worked : answersBy answersStrictly (entriesOf (readingOf estimateLog)) ≡
+    all (Refused Missing) (Refused Missing) (Refused Missing) (Refused Missing) (Refused Missing) (Refused Missing) (Figure 0)
 unfolding readingOf readFrom recordAt stationAt dayAt cropAt wordAt signedOf signedAt isDate yearLength daysBefore goodDate counted earlierMeans verdictStrictly badCrop inSeason above cropFigure
-then-worked = λ i. all (lacking-then .0 i) (lacking-then .1 i) (lacking-then .2 i) (lacking-then .3 i)
+then-worked =
+    λ i.
+    all (lacking-then .0 i) (lacking-then .1 i) (lacking-then .2 i) (lacking-then .3 i) (lacking-then .4 i) (lacking-then .5 i) (answered-then i)
 
-pub was : outcomeStrictly estimateLog 41 ≡ outcome.Written 41
+outcome-was : (size : ℕ) → outcomeStrictly estimateLog size ≡ cond (ltb size 73) (outcome.Refused 12 73) (outcome.Written 73)
 unfolding outcomeStrictly readingOf readFrom recordAt stationAt dayAt cropAt wordAt signedOf signedAt badCrop
-was = λ i. let n = length (bytesOf (then-worked i)) in cond (ltb 41 n) (outcome.Refused 12 n) (outcome.Written n)
+outcome-was size = λ i. let n = length (bytesOf (then-worked i)) in cond (ltb size n) (outcome.Refused 12 n) (outcome.Written n)
 
-pub is : outcomeOf estimateLog 41 ≡ outcome.Refused 12 50
-is = outcome-is 41
+-- day 180 was refused with 7, and what stands behind it was nine bytes nearer
+pub then-bytes : bufferStrictly estimateLog lent ≡
+    5 ∷ 76 ∷ 73 ∷ 68 ∷ 87
+    ∷ 4 ∷ 7 ∷ 216 ∷ 0 ∷ 178 ∷ 0 ∷ 0 ∷ 0 ∷ 7
+    ∷ 4 ∷ 7 ∷ 216 ∷ 0 ∷ 179 ∷ 0 ∷ 0 ∷ 0 ∷ 7
+    ∷ 4 ∷ 7 ∷ 216 ∷ 0 ∷ 180 ∷ 0 ∷ 0 ∷ 0 ∷ 7
+    ∷ 4 ∷ 7 ∷ 216 ∷ 0 ∷ 181 ∷ 0 ∷ 0 ∷ 0 ∷ 7
+    ∷ 5 ∷ 76 ∷ 73 ∷ 68 ∷ 87
+    ∷ 4 ∷ 7 ∷ 216 ∷ 0 ∷ 10 ∷ 0 ∷ 0 ∷ 0 ∷ 7
+    ∷ 4 ∷ 7 ∷ 216 ∷ 0 ∷ 11 ∷ 0 ∷ 0 ∷ 0 ∷ 7
+    ∷ 3 ∷ 7 ∷ 216 ∷ 0 ∷ 12 ∷ 0 ∷ 0 ∷ 0 ∷ 0
+    ∷ replicate 11 8
+unfolding bufferStrictly stationAt dayAt wordAt
+then-bytes = λ i. leaves (outcome-was 84 i) (bytesOf (then-worked i)) lent
+
+-- a buffer of 73 bytes was enough
+pub was : outcomeStrictly estimateLog 73 ≡ outcome.Written 73
+was = outcome-was 73
+
+pub is : outcomeOf estimateLog 73 ≡ outcome.Refused 12 82
+is = outcome-is 73

@@ -22,9 +22,9 @@ pub record CropDay (s : List ℕ) (i : ℕ) (st : Station) (x : Day) (earlier : 
   pub holds : answered .at .block .crop ≡ planted c
   pub season : inSeason c (x .year) (x .d) ≡ true
 
--- In the buffer at exit the nine bytes at the day's own place are its answer, of kind 3 or 9, with the reference figure. The nine bytes behind them are kind 7, the
--- crop's capitals and a figure: that of the definition, at most twice the reference figure, and within 1.7 units of the unrounded value times the
--- percentage. What is proved is sharper: 1.53.
+-- In the buffer at exit the nine bytes at the day's own place are its answer, of kind 3 or 9, with the reference figure. The nine bytes behind them are
+-- kind 7, the crop's capitals and a figure: that of the definition, at most twice the reference figure, and within 1.7 units of the unrounded value
+-- times the percentage. What is proved is sharper: 1.53.
 pub record CropFigureAt (st : Station) (x : Day) (earlier : Earlier) (place : ℕ) (c : Crop) (after : List ℕ) : Type 0 where
   pub reference : ℕ
   pub figure : ℕ

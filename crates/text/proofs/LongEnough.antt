@@ -1,7 +1,7 @@
 -- How long a report can be: no day's line is longer than 23 bytes (`line-most`), no crop's than 13 (`crop-most`), and no report than 138,688
 -- (`report-most`). The theorem is `long-enough`. Assumes nothing.
-use mathlib.Core.Path.{_≡_, refl, ap}
-use mathlib.Core.Bool.{Bool, true, false, not, cond}
+use mathlib.Core.Path.{_≡_, ap}
+use mathlib.Core.Bool.{true, false, not}
 use mathlib.Core.List.{List, [], _∷_, _++_}
 use Prim.Native.Nat.{ℕ, _+_, _*_, _≤_, _<_}
 use native.Mathlib.Omega.{arith}

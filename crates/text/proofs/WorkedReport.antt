@@ -1,5 +1,6 @@
 -- Reports worked out from the log's bytes to the last newline: document 01's, with its four lines; the same log cut off; the same with an answer
--- buffer that is one byte too short; that of a log of 0 bytes; that of a log with a crop; and that of a log with a day without its dew point. Assumes nothing.
+-- buffer that is one byte too short; that of a log of 0 bytes; that of a log with a crop; and that of a log with a day without its
+-- dew point. Assumes nothing.
 use mathlib.Core.Path.{_≡_, refl}
 use mathlib.Core.List.{List, [], _∷_, _++_}
 use mathlib.Core.Bool.{cond}
@@ -63,7 +64,7 @@ with-crop =
     let n = length (bytesOf (crop-worked i)) in
     textOf (cond (ltb n n) (outcome.Refused 12 n) (outcome.Written n)) (crop-worked i)
 
--- `LIDW 2008 178 R7`, `LIDW 2008 179 R7`, `LIDW 2008 180 0.3347 E`, `BEAN 0.1255`, `LIDW 2008 181 R7`
+-- `LIDW 2008 178 R7`, `LIDW 2008 179 R7`, `LIDW 2008 180 0.3347 E`, `BEAN 0.1255`, `LIDW 2008 181 R7`, and document 01's
 pub with-estimate : wholeReport estimateLog ≡
     83 ∷ 84 ∷ 78 ∷ 32 ∷ 89 ∷ 69 ∷ 65 ∷ 82 ∷ 32 ∷ 68 ∷ 65 ∷ 89 ∷ 32 ∷ 69 ∷ 84 ∷ newline
     ∷ 76 ∷ 73 ∷ 68 ∷ 87 ∷ 32 ∷ 50 ∷ 48 ∷ 48 ∷ 56 ∷ 32 ∷ 49 ∷ 55 ∷ 56 ∷ 32 ∷ 82 ∷ 55 ∷ newline
@@ -71,6 +72,9 @@ pub with-estimate : wholeReport estimateLog ≡
     ∷ 76 ∷ 73 ∷ 68 ∷ 87 ∷ 32 ∷ 50 ∷ 48 ∷ 48 ∷ 56 ∷ 32 ∷ 49 ∷ 56 ∷ 48 ∷ 32 ∷ 48 ∷ 46 ∷ 51 ∷ 51 ∷ 52 ∷ 55 ∷ 32 ∷ 69 ∷ newline
     ∷ 66 ∷ 69 ∷ 65 ∷ 78 ∷ 32 ∷ 48 ∷ 46 ∷ 49 ∷ 50 ∷ 53 ∷ 53 ∷ newline
     ∷ 76 ∷ 73 ∷ 68 ∷ 87 ∷ 32 ∷ 50 ∷ 48 ∷ 48 ∷ 56 ∷ 32 ∷ 49 ∷ 56 ∷ 49 ∷ 32 ∷ 82 ∷ 55 ∷ newline
+    ∷ 76 ∷ 73 ∷ 68 ∷ 87 ∷ 32 ∷ 50 ∷ 48 ∷ 48 ∷ 56 ∷ 32 ∷ 48 ∷ 49 ∷ 48 ∷ 32 ∷ 82 ∷ 55 ∷ newline
+    ∷ 76 ∷ 73 ∷ 68 ∷ 87 ∷ 32 ∷ 50 ∷ 48 ∷ 48 ∷ 56 ∷ 32 ∷ 48 ∷ 49 ∷ 49 ∷ 32 ∷ 82 ∷ 55 ∷ newline
+    ∷ 76 ∷ 73 ∷ 68 ∷ 87 ∷ 32 ∷ 50 ∷ 48 ∷ 48 ∷ 56 ∷ 32 ∷ 48 ∷ 49 ∷ 50 ∷ 32 ∷ 48 ∷ 46 ∷ 48 ∷ 48 ∷ 48 ∷ 48 ∷ newline
     ∷ []
 unfolding wholeReport reportOf outcomeOf readingOf readFrom recordAt stationAt dayAt cropAt wordAt signedOf signedAt badCrop dayLine cropLine padded verdictText inches digits leading
 with-estimate =

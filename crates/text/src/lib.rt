@@ -23,7 +23,8 @@ pub enum Printed {
     Needs(usize),
 }
 
-// No log has longer answers, and none a longer report, than one station, one crop and 3,852 answered days with a crop figure each would have.
+// No log has longer answers, and none a longer report, than one station, one crop and 3,852 answered days with a crop figure each would have, all of
+// them without their dew point.
 pub const LONGEST_ANSWERS: usize = 69_341;
 
 pub const LONGEST_REPORT: usize = 138_688;

@@ -2,13 +2,13 @@
 use mathlib.Core.Path.{_≡_, sym, _∙_, ap, subst}
 use native.Mathlib.Omega.{arith}
 use borrow.Author.Needs.{needs}
-use Rattle.day.specs.Judgement.{figureOf, standingOf, asJudged, withMark, verdictWith, judged}
+use Rattle.day.specs.Judgement.{figureOf, asJudged, withMark, verdictWith, judged}
 use Rattle.day.specs.Bound.{SignedConstants, FigureOwed, FigureInRange, JudgesWithinBound}
 use Rattle.day.specs.declared.Day.{Day}
 use Rattle.day.specs.declared.Standing.{Standing}
 use Rattle.day.specs.declared.Verdict.{Verdict}
 use Rattle.day.proofs.Tests.{in-word}
-use Rattle.day.proofs.Standings.{stands-answered}
+use Rattle.day.proofs.Standings.{stands-answered, stands-as-judged}
 use Rattle.day.proofs.DayBound.{judged-within-bound}
 use Rattle.day.proofs.FigureLimit.{figure-in-range}
 use Rattle.day.proofs.judge.judge_by.Statement.{statement}
@@ -37,10 +37,6 @@ all-owed c {v} e = (
   ),
 )
 
--- what the day as it is judged is told, the day itself is told
-standing-told : (c : tie.After-standing) → c .standing .result ≡ standingOf (c .before .before .args .station) (asJudged (c .before .before .args .day)) (c .before .before .args .earlier)
-standing-told c = let s = c .before .before in c .standing .ensures ∙ ap (λ (y : Day). standingOf (s .args .station) y (s .args .earlier)) (c .before .as-judged .ensures)
-
 figure-requires : tie.Need-figure-requires
 figure-requires c κs =
     let stood = c .before .before in
@@ -53,10 +49,11 @@ unfolding judged
 returns c =
     let why = c .before in
     let stood = why .before .before in
-    let s = stood .before .before in
+    let x = stood .before in
+    let s = x .before in
     all-owed s
     (ap (λ (x : Standing). verdictWith x (withMark (s .args .day) (figureOf (s .args .station) (asJudged (s .args .day)) (s .args .earlier))))
-    (sym (why .why .given .1) ∙ standing-told stood))
+    (sym (why .why .given .1) ∙ stands-as-judged (s .args .station) (s .args .day) (s .args .earlier) (stood .standing .ensures) (x .as-judged .ensures)))
 
 returns-2 : tie.Need-returns-2
 unfolding judged
@@ -70,7 +67,7 @@ returns-2 c =
     ∙ ap (withMark (s .args .day))
     (c .before .figure .ensures ∙ ap (λ (y : Day). figureOf (s .args .station) y (s .args .earlier)) (x .as-judged .ensures))
     ∙ ap (λ (x : Standing). verdictWith x (withMark (s .args .day) (figureOf (s .args .station) (asJudged (s .args .day)) (s .args .earlier))))
-    (sym (told .enum-told .given .1) ∙ standing-told stood))
+    (sym (told .enum-told .given .1) ∙ stands-as-judged (s .args .station) (s .args .day) (s .args .earlier) (stood .standing .ensures) (x .as-judged .ensures)))
 
 pub judge-by-spec : {M : Type 1} → statement M
 judge-by-spec =
