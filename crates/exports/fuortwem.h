@@ -3,7 +3,8 @@
  * Link with libexports.a, which `rt staticlib exports` writes to target/staticlib. docs/LINKING.md has programs.
  *
  * Each function returns two numbers of 32 bits in one of 64: fuortwem_number takes out the high half, fuortwem_value the low one.
- * The high half is the number of the refusal, or 0 if there is none. The numbers:
+ * The high half is the number of the refusal, or 0 if there is none; of a day alone it may also be FUORTWEM_ESTIMATED, which is no refusal. The
+ * numbers:
  *
  *    1   log: a record's kind is none of 1, 2, 6 and 8
  *    2   log: it ends inside a record
@@ -11,7 +12,7 @@
  *    4   log: a day or a crop before any station
  *    5   log: it is over 65,536 bytes
  *    6   day: no date of the years 1950 to 2099 or, in a log, not after the block's last good date
- *    7   day: one of the six readings is missing
+ *    7   day: a reading is missing, and not the dew point alone
  *    8   day: a reading is out of range; of a day alone, also an earlier mean that is there
  *    9   day: minimum above mean, mean above maximum, or dew point above maximum
  *   10   day: radiation above twice that of a clear day
@@ -28,6 +29,10 @@
 
 /* A reading that is missing. It counts in the six readings of a day only. */
 #define FUORTWEM_MISSING INT16_MIN
+
+/* In place of a refusal's number: the day has a figure, and its dew point alone was missing, so that the minimum stood for it. A refusal's number has
+ * one byte, so no refusal has this one. */
+#define FUORTWEM_ESTIMATED 256
 
 /* The refusal's number of what a function returned: 0 for none. */
 static inline uint32_t fuortwem_number(uint64_t returned) {
@@ -48,6 +53,7 @@ extern "C" {
  * Returned, for every value of the arguments:
  *
  *   number 0                       the day has a figure: the value is the water used, in 0.0001 inch
+ *   number 256                     FUORTWEM_ESTIMATED: the same, with the minimum in place of a dew point that alone was missing
  *   number 3, 6, 7, 8, 9, 10, 11   the first of these, in this order, that holds of the day; the value is 0
  *
  * Station: its code's four letters, A to Z, as ASCII; c1 to c5 of its clear-day radiation, in units of 1, 0.001, 0.0001, 0.000001 and
@@ -55,7 +61,8 @@ extern "C" {
  * tenths of a mile a day, 1,000 to 1,500: a wind run above it counts as the limit. 1,500 is the limit of a station whose record is of kind 1.
  * Day: the year, 1950 to 2099; d, the day of the year, 1 to 365, or 366 in a leap year; maximum, minimum, mean and dew point in tenths of
  * a degree Fahrenheit, -94 to 1,291; solar radiation in tenths of a cal/cm2/d, 0 to 12,000; wind run in tenths of a mile a day, 0 to 9,999.
- * A reading that is missing is -32,768 (FUORTWEM_MISSING).
+ * A reading that is missing is -32,768 (FUORTWEM_MISSING). Where the dew point alone is missing, the day is judged with the minimum in its place: what
+ * it is refused for then, or its figure with the number 256.
  * Earlier means: of the three calendar days before, the nearest day first, in tenths of a degree Fahrenheit. has_one, has_two and has_three
  * tell whether each is there, 0 for no and any other number for yes; one that is not there is not looked at. One that is there has the range of the other temperatures.
  *
@@ -99,8 +106,9 @@ uint64_t fuortwem_judge(
  *   kind 3, day with a figure, 9 bytes: year (2), d (2), figure in 0.0001 inch (4)
  *   kind 4, day refused, 9 bytes: year (2), d (2), the refusal's number, 6 to 11 (4)
  *   kind 7, crop figure, 9 bytes: the crop's letters (4), figure in 0.0001 inch (4)
+ *   kind 9, day with a figure whose dew point alone was missing, so that the minimum stood for it, 9 bytes: as kind 3
  *
- * Kind 7 stands right after the kind 3 of a day of the crop's year from S to F, both included. The figure is the day's times a percentage
+ * Kind 7 stands right after the kind 3 or 9 of a day of the crop's year from S to F, both included. The figure is the day's times a percentage
  * over 100, rounded to nearest, halves up: stage 0 stands at S, stage 10 at F, the others at equal steps between them, and between two
  * stages the percentage is read linearly. A crop has no answer of its own.
  *
@@ -123,13 +131,14 @@ uint64_t fuortwem_read_log(const uint8_t *log, size_t log_length, uint8_t *answe
  *
  *   number 0    the line "STN YEAR DAY ET", then a line for each day in log order, such as "LIDW 2008 012 0.0000": the station's code, the
  *               year with at least four digits, the day of the year with at least three, and the inches or, for a day that is refused,
- *               R and the number, such as "R7"; after the line of a day with a crop figure, a line such as "BEAN 0.2814": the crop's
- *               letters and the inches; an empty log has the first line alone
+ *               R and the number, such as "R7"; behind the inches a space and an E where the minimum stood for a missing dew point, such as
+ *               "LIDW 2008 180 0.3347 E"; after the line of a day with a crop figure, a line such as "BEAN 0.2814": the crop's letters and
+ *               the inches; an empty log has the first line alone
  *   another     one line, "REFUSED", the number and the value, such as "REFUSED 2 53"; so too where the answer buffer is too short, such
  *               as "REFUSED 12 32"
  *
  * A call with a text length of 0 gives the length needed, for no report is empty. An answer buffer of 69,341 bytes and a text buffer of
- * 130,984 are enough for every log.
+ * 138,688 are enough for every log.
  *
  * Asked of the caller: what fuortwem_read_log asks for the log and the answers, and the same as for the answers for `text` and
  * `text_length`; no two of the three overlap. */

@@ -26,4 +26,5 @@ pub mod WithoutKind
 pub mod WithoutCrops
 pub mod FirstStation
 pub mod LimitedStations
+pub mod AnswersSince
 pub mod WithoutSubstitute
