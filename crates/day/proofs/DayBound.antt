@@ -144,6 +144,6 @@ judged-within-proved st day earlier constants answered =
     (figureOf st (asJudged day) earlier, answered-figure st day earlier answered, within-proved st (asJudged day) earlier constants answered)
 
 pub judged-within-bound : JudgesWithinBound judged
-unfolding JudgesWithinBound FigureOwed
+unfolding JudgesWithinBound FigureOwed asJudged
 judged-within-bound st day earlier constants answered =
     (figureOf st (asJudged day) earlier, answered-figure st day earlier answered, within-bound st (asJudged day) earlier constants answered)
