@@ -34,28 +34,29 @@ module _ (st : Station) (h : List Day) (y : Day) where
   abbrev then : Verdict
   then = judgedStrictly st y (earlierMeans h y)
 
-  abbrev dated : Bool → Verdict → Verdict
-  dated good v = cond good v (verdict.Refused BadDate)
+  -- 6, unless the date is good
+  abbrev ifGood : Bool → Verdict → Verdict
+  ifGood good v = cond good v (verdict.Refused BadDate)
 
   verdict-stays : (lacksDewPoint y ≡ true → verdictStrictly st h y ≢ verdict.Refused Missing) → verdictOf st h y ≡ verdictStrictly st h y
   unfolding verdictOf verdictStrictly
   verdict-stays stays = by (goodDate h y) (lacksDewPoint y) refl stays
     where
-      by : (good lacks : Bool) → lacksDewPoint y ≡ lacks → (lacks ≡ true → dated good then ≢ verdict.Refused Missing) → dated good now ≡ dated good then
+      by : (good lacks : Bool) → lacksDewPoint y ≡ lacks → (lacks ≡ true → ifGood good then ≢ verdict.Refused Missing) → ifGood good now ≡ ifGood good then
       by true true e other = day-since.since st y (earlierMeans h y) .kept (other refl)
       by true false e other = day-since.since st y (earlierMeans h y) .remains e
       by false lacks e other = refl
 
   substituted-verdict : goodDate h y ≡ true → lacksDewPoint y ≡ true → verdictOf st h y ≡ estimated (judgedStrictly st (withMinimum y) (earlierMeans h y))
   unfolding verdictOf
-  substituted-verdict good lacks = ap (λ (b : Bool). dated b now) good ∙ day-since.since st y (earlierMeans h y) .substituted lacks
+  substituted-verdict good lacks = ap (λ (b : Bool). ifGood b now) good ∙ day-since.since st y (earlierMeans h y) .substituted lacks
 
   -- without its dew point alone it was refused, with 6 or otherwise
   was-refused : lacksDewPoint y ≡ true → (r : Refusal) × (verdictStrictly st h y ≡ verdict.Refused r)
   unfolding verdictStrictly
   was-refused lacks = by (goodDate h y)
     where
-      by : (good : Bool) → (r : Refusal) × (dated good then ≡ verdict.Refused r)
+      by : (good : Bool) → (r : Refusal) × (ifGood good then ≡ verdict.Refused r)
       by true = day-since.refused-without st y (earlierMeans h y) lacks
       by false = (BadDate, refl)
 
