@@ -40,7 +40,7 @@ refusal-most r = omega (arith, digits-most 1 (numberOf r) (two-digits r))
 -- the mark is two bytes
 pub estimate-size : (n : ℕ) → length (verdictText (Estimated n)) ≡ length (inches n) + 2
 unfolding verdictText
-estimate-size n = length-append (inches n) (field (69 ∷ []))
+estimate-size n = simp length-append
 
 -- at most 6 digits, a point, 4 decimals and the mark
 verdict-most : (v : Verdict) → Handed v → length (verdictText v) ≤ 13
