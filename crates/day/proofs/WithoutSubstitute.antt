@@ -1,7 +1,7 @@
 -- What has become of each day's verdict since the minimum stands for a missing dew point. The theorem is `since`. Assumes nothing.
 use mathlib.Core.Bool.{Bool, true, false, not, cond}
 use mathlib.Core.List.{[], _∷_}
-use mathlib.Core.Logic.{_≢_}
+use mathlib.Core.Logic.{_≢_, _⊎_, inl, inr, ⊎-elim}
 use mathlib.Core.Path.{_≡_, refl, sym, ap, subst, _∙_}
 use lib.Dec.{T}
 use Rattle.day.specs.Calendar.{isDate}
@@ -26,15 +26,15 @@ judged-with x e = ap (λ (lacks : Bool). withDewPoint x (cond lacks (x .minimum)
 
 -- ---- the tests before 7, and 7 itself
 
--- 3 and 6 are the same with any dew point: where 7 held and was not the first, what was first still is
+-- 3 and 6 are the same with any dew point: where 7 held it was the first, or what was first still is
 earlier-tests : (a b m : Bool) (s t : Standing) (v w : Verdict) → m ≡ true →
     let before = cond a (standing.Refused StationField) (cond b (standing.Refused BadDate) (cond m (standing.Refused Missing) s)) in
-    verdictWith before v ≢ Refused Missing →
-    verdictWith (cond a (standing.Refused StationField) (cond b (standing.Refused BadDate) t)) w ≡ verdictWith before v
-earlier-tests true b m s t v w e other = refl
-earlier-tests false true m s t v w e other = refl
-earlier-tests false false true s t v w e other = absurd (other refl)
-earlier-tests false false false s t v w e other = absurd (subst T (sym e) tt)
+    let after = cond a (standing.Refused StationField) (cond b (standing.Refused BadDate) t) in
+    (verdictWith before v ≡ Refused Missing) ⊎ ((r : Refusal) × (verdictWith before v ≡ Refused r) × (verdictWith after w ≡ Refused r))
+earlier-tests true b m s t v w e = inr (StationField, refl, refl)
+earlier-tests false true m s t v w e = inr (BadDate, refl, refl)
+earlier-tests false false true s t v w e = inl refl
+earlier-tests false false false s t v w e = absurd (subst T (sym e) tt)
 
 dew-point-missing : (x : Day) → lacksDewPoint x ≡ true → isMissing (x .dewpoint) ≡ true
 unfolding lacksDewPoint
@@ -67,32 +67,21 @@ module _ (st : Station) (x : Day) (earlier : Earlier) where
   missing-held e =
       ap (λ (b : Bool). cond b true (anyOf (otherMarks (x .maximum) (x .minimum) (x .mean) (x .radiation) (x .wind)))) (dew-point-missing x e)
 
-  -- so the day was refused with 3, 6 or 7
-  pub refused-without : lacksDewPoint x ≡ true → (r : Refusal) × (judgedStrictly st x earlier ≡ Refused r)
-  unfolding judgedStrictly standingOf holds
-  refused-without e =
-      by (badStation st) (not (isDate (x .year) (x .d))) (holds Missing st x earlier)
-      (firstOf (OutOfRange ∷ OutOfOrder ∷ AboveClear ∷ SumBelowOne ∷ []) (λ r. holds r st x earlier)) (missing-held e)
-    where
-      by : (a b m : Bool) (s : Standing) → m ≡ true → (r : Refusal)
-          × (verdictWith (cond a (standing.Refused StationField) (cond b (standing.Refused BadDate) (cond m (standing.Refused Missing) s))) (Figure (figureOf st x earlier))
-          ≡ Refused r)
-      by true b m s f = (StationField, refl)
-      by false true m s f = (BadDate, refl)
-      by false false true s f = (Missing, refl)
-      by false false false s f = absurd (subst T (sym f) tt)
-
-  -- and where 7 was not first, what was is so still
-  kept-without : lacksDewPoint x ≡ true → judgedStrictly st x earlier ≢ Refused Missing → judged st x earlier ≡ judgedStrictly st x earlier
+  -- so the day was refused with 7; or with 3 or 6, and is so still
+  seven-or-still : lacksDewPoint x ≡ true →
+      (judgedStrictly st x earlier ≡ Refused Missing) ⊎ ((r : Refusal) × (judgedStrictly st x earlier ≡ Refused r) × (judged st x earlier ≡ Refused r))
   unfolding judged judgedStrictly standingOf holds asJudged
-  kept-without e other =
+  seven-or-still e =
       earlier-tests (badStation st) (not (isDate (x .year) (x .d))) (holds Missing st x earlier)
       (firstOf (OutOfRange ∷ OutOfOrder ∷ AboveClear ∷ SumBelowOne ∷ []) (λ r. holds r st x earlier))
       (firstOf (Missing ∷ OutOfRange ∷ OutOfOrder ∷ AboveClear ∷ SumBelowOne ∷ []) (λ r. holds r st (asJudged x) earlier))
-      (Figure (figureOf st x earlier)) (withMark x (figureOf st (asJudged x) earlier)) (missing-held e) other
+      (Figure (figureOf st x earlier)) (withMark x (figureOf st (asJudged x) earlier)) (missing-held e)
+
+  pub refused-without : lacksDewPoint x ≡ true → (r : Refusal) × (judgedStrictly st x earlier ≡ Refused r)
+  refused-without e = ⊎-elim (λ seven. (Missing, seven)) (λ still. (still .0, still .1)) (seven-or-still e)
 
   kept : (lacks : Bool) → lacksDewPoint x ≡ lacks → judgedStrictly st x earlier ≢ Refused Missing → judged st x earlier ≡ judgedStrictly st x earlier
-  kept true e other = kept-without e other
+  kept true e other = ⊎-elim (λ seven. absurd (other seven)) (λ still. still .2 ∙ sym (still .1)) (seven-or-still e)
   kept false e other = remains e
 
   pub since : Since st x earlier

@@ -31,7 +31,7 @@ use Rattle.log.specs.Log.{planted, cropAnswers, answersTo, readFrom, rea
 use Rattle.log.specs.declared.Outcome.the-variants as outcome
 use Rattle.log.specs.WithoutKind.{recordWithout, readWithout, readingWithout, Without}
 use Rattle.log.proofs.CropFigures.{crop-figures-met}
-use Rattle.log.proofs.Sample.{sample, station, day-there, windless, beans, noMean, oneMean, twoMeans}
+use Rattle.log.proofs.Sample.{sample, station, day-there, windless, beans, lidw, missing, noMean, oneMean, twoMeans}
 
 -- day 180 of 2008: 90, 55, 72 and 50 °F, 700 cal/cm²/d, 100 miles
 abbrev summer : List ℕ
@@ -115,17 +115,12 @@ kept = crop-figures-met cropLog lent (82, outcome-is) 4 23 (stationAt cropLog 1)
 
 -- the last two bytes are as they were
 pub bytes : bufferAfter cropLog lent ≡
-    5 ∷ 76 ∷ 73 ∷ 68 ∷ 87
-    ∷ 4 ∷ 7 ∷ 216 ∷ 0 ∷ 178 ∷ 0 ∷ 0 ∷ 0 ∷ 7
-    ∷ 4 ∷ 7 ∷ 216 ∷ 0 ∷ 179 ∷ 0 ∷ 0 ∷ 0 ∷ 7
-    ∷ 3 ∷ 7 ∷ 216 ∷ 0 ∷ 180 ∷ 0 ∷ 0 ∷ 13 ∷ 190
-    ∷ 7 ∷ 66 ∷ 69 ∷ 65 ∷ 78 ∷ 0 ∷ 0 ∷ 5 ∷ 39
-    ∷ 5 ∷ 76 ∷ 73 ∷ 68 ∷ 87
-    ∷ 4 ∷ 7 ∷ 216 ∷ 0 ∷ 177 ∷ 0 ∷ 0 ∷ 0 ∷ 7
-    ∷ 4 ∷ 7 ∷ 216 ∷ 0 ∷ 178 ∷ 0 ∷ 0 ∷ 0 ∷ 7
-    ∷ 4 ∷ 7 ∷ 216 ∷ 0 ∷ 179 ∷ 0 ∷ 0 ∷ 0 ∷ 7
-    ∷ 3 ∷ 7 ∷ 216 ∷ 0 ∷ 180 ∷ 0 ∷ 0 ∷ 13 ∷ 28
-    ∷ 9 ∷ 9 ∷ []
+    lidw ++ missing 178 ++ missing 179
+    ++ (3 ∷ 7 ∷ 216 ∷ 0 ∷ 180 ∷ 0 ∷ 0 ∷ 13 ∷ 190 ∷ [])
+    ++ (7 ∷ 66 ∷ 69 ∷ 65 ∷ 78 ∷ 0 ∷ 0 ∷ 5 ∷ 39 ∷ [])
+    ++ lidw ++ missing 177 ++ missing 178 ++ missing 179
+    ++ (3 ∷ 7 ∷ 216 ∷ 0 ∷ 180 ∷ 0 ∷ 0 ∷ 13 ∷ 28 ∷ [])
+    ++ (9 ∷ 9 ∷ [])
 unfolding bufferAfter stationAt cropAt
 bytes = λ i. leaves (outcome-is i) (bytesOf (worked i)) lent
 

@@ -36,7 +36,7 @@ use Rattle.log.specs.WithoutSubstitute.{verdictStrictly, answersStrictly
 use Rattle.log.specs.declared.Outcome.the-variants as outcome
 use Rattle.log.proofs.CropFigures.{crop-figures-met}
 use Rattle.log.proofs.Demand.{log-within-bound}
-use Rattle.log.proofs.Sample.{sample, station, day-there, windless, beans, noMean, oneMean, twoMeans}
+use Rattle.log.proofs.Sample.{sample, station, day-there, windless, beans, lidw, missing, noMean, oneMean, twoMeans}
 
 -- day 179 of 2008, 71 °F, neither a dew point nor the wind; day 180: 90, 55 and 72 °F, no dew point, 700 cal/cm²/d, 100 miles
 abbrev twoMissing : List ℕ
@@ -148,19 +148,16 @@ pub crop-owed : CropFigureAt (stationAt estimateLog 1) (dayAt estimateLog 76) tw
 unfolding EveryCropFigure CropFiguresOwed AnsweredLog
 crop-owed = crop-figures-met estimateLog lent (82, outcome-is 84) 4 23 (stationAt estimateLog 1) (dayAt estimateLog 76) twoMeans (cropAt estimateLog 20) crop-day
 
+-- behind day 180 and the beans
+abbrev later : List ℕ
+later = missing 181 ++ lidw ++ missing 10 ++ missing 11 ++ (3 ∷ 7 ∷ 216 ∷ 0 ∷ 12 ∷ 0 ∷ 0 ∷ 0 ∷ 0 ∷ [])
+
 -- the last two bytes are as they were
 pub bytes : bufferAfter estimateLog lent ≡
-    5 ∷ 76 ∷ 73 ∷ 68 ∷ 87
-    ∷ 4 ∷ 7 ∷ 216 ∷ 0 ∷ 178 ∷ 0 ∷ 0 ∷ 0 ∷ 7
-    ∷ 4 ∷ 7 ∷ 216 ∷ 0 ∷ 179 ∷ 0 ∷ 0 ∷ 0 ∷ 7
-    ∷ 9 ∷ 7 ∷ 216 ∷ 0 ∷ 180 ∷ 0 ∷ 0 ∷ 13 ∷ 19
-    ∷ 7 ∷ 66 ∷ 69 ∷ 65 ∷ 78 ∷ 0 ∷ 0 ∷ 4 ∷ 231
-    ∷ 4 ∷ 7 ∷ 216 ∷ 0 ∷ 181 ∷ 0 ∷ 0 ∷ 0 ∷ 7
-    ∷ 5 ∷ 76 ∷ 73 ∷ 68 ∷ 87
-    ∷ 4 ∷ 7 ∷ 216 ∷ 0 ∷ 10 ∷ 0 ∷ 0 ∷ 0 ∷ 7
-    ∷ 4 ∷ 7 ∷ 216 ∷ 0 ∷ 11 ∷ 0 ∷ 0 ∷ 0 ∷ 7
-    ∷ 3 ∷ 7 ∷ 216 ∷ 0 ∷ 12 ∷ 0 ∷ 0 ∷ 0 ∷ 0
-    ∷ 8 ∷ 8 ∷ []
+    lidw ++ missing 178 ++ missing 179
+    ++ (9 ∷ 7 ∷ 216 ∷ 0 ∷ 180 ∷ 0 ∷ 0 ∷ 13 ∷ 19 ∷ [])
+    ++ (7 ∷ 66 ∷ 69 ∷ 65 ∷ 78 ∷ 0 ∷ 0 ∷ 4 ∷ 231 ∷ [])
+    ++ later ++ (8 ∷ 8 ∷ [])
 unfolding bufferAfter stationAt cropAt
 bytes = λ i. leaves (outcome-is 84 i) (bytesOf (worked i)) lent
 
@@ -178,17 +175,7 @@ unfolding outcomeStrictly readingOf readFrom recordAt stationAt dayAt cropAt wor
 outcome-was size = λ i. let n = length (bytesOf (then-worked i)) in cond (ltb size n) (outcome.Refused 12 n) (outcome.Written n)
 
 -- day 180 was refused with 7, and what stands behind it was nine bytes nearer
-pub then-bytes : bufferStrictly estimateLog lent ≡
-    5 ∷ 76 ∷ 73 ∷ 68 ∷ 87
-    ∷ 4 ∷ 7 ∷ 216 ∷ 0 ∷ 178 ∷ 0 ∷ 0 ∷ 0 ∷ 7
-    ∷ 4 ∷ 7 ∷ 216 ∷ 0 ∷ 179 ∷ 0 ∷ 0 ∷ 0 ∷ 7
-    ∷ 4 ∷ 7 ∷ 216 ∷ 0 ∷ 180 ∷ 0 ∷ 0 ∷ 0 ∷ 7
-    ∷ 4 ∷ 7 ∷ 216 ∷ 0 ∷ 181 ∷ 0 ∷ 0 ∷ 0 ∷ 7
-    ∷ 5 ∷ 76 ∷ 73 ∷ 68 ∷ 87
-    ∷ 4 ∷ 7 ∷ 216 ∷ 0 ∷ 10 ∷ 0 ∷ 0 ∷ 0 ∷ 7
-    ∷ 4 ∷ 7 ∷ 216 ∷ 0 ∷ 11 ∷ 0 ∷ 0 ∷ 0 ∷ 7
-    ∷ 3 ∷ 7 ∷ 216 ∷ 0 ∷ 12 ∷ 0 ∷ 0 ∷ 0 ∷ 0
-    ∷ replicate 11 8
+pub then-bytes : bufferStrictly estimateLog lent ≡ lidw ++ missing 178 ++ missing 179 ++ missing 180 ++ later ++ replicate 11 8
 unfolding bufferStrictly stationAt dayAt wordAt
 then-bytes = λ i. leaves (outcome-was 84 i) (bytesOf (then-worked i)) lent
 

@@ -27,7 +27,7 @@ use Rattle.log.specs.Log.{bare, answersTo, readFrom, readingOf, entriesO
 use Rattle.log.specs.WithoutKind.{recordWithout, readWithout, readingWithout, Without}
 use Rattle.log.specs.declared.Outcome.the-variants as outcome
 use Rattle.log.proofs.Demand.{log-within-bound}
-use Rattle.log.proofs.Sample.{sample, fields, station, day-there, windless, noMean, oneMean, twoMeans}
+use Rattle.log.proofs.Sample.{sample, fields, station, day-there, windless, lidw, missing, noMean, oneMean, twoMeans}
 
 -- LIDW as kind 8 with the limit 1,000
 abbrev limitedStation : List ℕ
@@ -101,15 +101,11 @@ kept = log-within-bound limitLog lent (64, outcome-is) 3 23 first (dayAt limitLo
 
 -- the last two bytes are as they were
 pub bytes : bufferAfter limitLog lent ≡
-    5 ∷ 76 ∷ 73 ∷ 68 ∷ 87
-    ∷ 4 ∷ 7 ∷ 216 ∷ 0 ∷ 178 ∷ 0 ∷ 0 ∷ 0 ∷ 7
-    ∷ 4 ∷ 7 ∷ 216 ∷ 0 ∷ 179 ∷ 0 ∷ 0 ∷ 0 ∷ 7
-    ∷ 3 ∷ 7 ∷ 216 ∷ 0 ∷ 180 ∷ 0 ∷ 0 ∷ 13 ∷ 190
-    ∷ 5 ∷ 76 ∷ 73 ∷ 68 ∷ 87
-    ∷ 4 ∷ 7 ∷ 216 ∷ 0 ∷ 178 ∷ 0 ∷ 0 ∷ 0 ∷ 7
-    ∷ 4 ∷ 7 ∷ 216 ∷ 0 ∷ 179 ∷ 0 ∷ 0 ∷ 0 ∷ 7
-    ∷ 3 ∷ 7 ∷ 216 ∷ 0 ∷ 180 ∷ 0 ∷ 0 ∷ 15 ∷ 85
-    ∷ 9 ∷ 9 ∷ []
+    lidw ++ missing 178 ++ missing 179
+    ++ (3 ∷ 7 ∷ 216 ∷ 0 ∷ 180 ∷ 0 ∷ 0 ∷ 13 ∷ 190 ∷ [])
+    ++ lidw ++ missing 178 ++ missing 179
+    ++ (3 ∷ 7 ∷ 216 ∷ 0 ∷ 180 ∷ 0 ∷ 0 ∷ 15 ∷ 85 ∷ [])
+    ++ (9 ∷ 9 ∷ [])
 unfolding bufferAfter stationAt limitedStationAt
 bytes = λ i. leaves (outcome-is i) (bytesOf (worked i)) lent
 

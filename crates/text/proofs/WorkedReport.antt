@@ -4,9 +4,11 @@
 use mathlib.Core.Path.{_≡_, refl}
 use mathlib.Core.List.{List, [], _∷_, _++_}
 use mathlib.Core.Bool.{cond}
+use Prim.Native.Nat.{ℕ}
 use lib.Dec.{ltb}
 use lib.ListN.{length, take}
 use Rattle.answers.specs.Answers.{bytesOf}
+use Rattle.answers.specs.declared.Answer.{Answer}
 use Rattle.crops.specs.Crop.{badCrop}
 use Rattle.records.specs.Bytes.{wordAt, signedOf, signedAt}
 use Rattle.records.specs.Record.{stationAt, dayAt, cropAt, recordAt}
@@ -46,38 +48,41 @@ pub empty : wholeReport [] ≡ header
 unfolding wholeReport reportOf outcomeOf readingOf readFrom recordAt
 empty = refl
 
+-- the line of a day of LIDW in 2008: its day and what is said of it; `R7`
+abbrev lidw : List ℕ → List ℕ → List ℕ
+lidw d says = 76 ∷ 73 ∷ 68 ∷ 87 ∷ 32 ∷ 50 ∷ 48 ∷ 48 ∷ 56 ∷ 32 ∷ (d ++ 32 ∷ (says ++ newline ∷ []))
+
+abbrev missing : List ℕ
+missing = 82 ∷ 55 ∷ []
+
+-- the report of some answers, in a buffer of the length that they need
+abbrev told : List Answer → List ℕ
+told answers = let n = length (bytesOf answers) in textOf (cond (ltb n n) (outcome.Refused 12 n) (outcome.Written n)) answers
+
 -- `LIDW 2008 178 R7`, `LIDW 2008 179 R7`, `LIDW 2008 180 0.3518`, `BEAN 0.1319`; and the second block without a crop, its last day `0.3356`
 pub with-crop : wholeReport cropLog ≡
-    83 ∷ 84 ∷ 78 ∷ 32 ∷ 89 ∷ 69 ∷ 65 ∷ 82 ∷ 32 ∷ 68 ∷ 65 ∷ 89 ∷ 32 ∷ 69 ∷ 84 ∷ newline
-    ∷ 76 ∷ 73 ∷ 68 ∷ 87 ∷ 32 ∷ 50 ∷ 48 ∷ 48 ∷ 56 ∷ 32 ∷ 49 ∷ 55 ∷ 56 ∷ 32 ∷ 82 ∷ 55 ∷ newline
-    ∷ 76 ∷ 73 ∷ 68 ∷ 87 ∷ 32 ∷ 50 ∷ 48 ∷ 48 ∷ 56 ∷ 32 ∷ 49 ∷ 55 ∷ 57 ∷ 32 ∷ 82 ∷ 55 ∷ newline
-    ∷ 76 ∷ 73 ∷ 68 ∷ 87 ∷ 32 ∷ 50 ∷ 48 ∷ 48 ∷ 56 ∷ 32 ∷ 49 ∷ 56 ∷ 48 ∷ 32 ∷ 48 ∷ 46 ∷ 51 ∷ 53 ∷ 49 ∷ 56 ∷ newline
-    ∷ 66 ∷ 69 ∷ 65 ∷ 78 ∷ 32 ∷ 48 ∷ 46 ∷ 49 ∷ 51 ∷ 49 ∷ 57 ∷ newline
-    ∷ 76 ∷ 73 ∷ 68 ∷ 87 ∷ 32 ∷ 50 ∷ 48 ∷ 48 ∷ 56 ∷ 32 ∷ 49 ∷ 55 ∷ 55 ∷ 32 ∷ 82 ∷ 55 ∷ newline
-    ∷ 76 ∷ 73 ∷ 68 ∷ 87 ∷ 32 ∷ 50 ∷ 48 ∷ 48 ∷ 56 ∷ 32 ∷ 49 ∷ 55 ∷ 56 ∷ 32 ∷ 82 ∷ 55 ∷ newline
-    ∷ 76 ∷ 73 ∷ 68 ∷ 87 ∷ 32 ∷ 50 ∷ 48 ∷ 48 ∷ 56 ∷ 32 ∷ 49 ∷ 55 ∷ 57 ∷ 32 ∷ 82 ∷ 55 ∷ newline
-    ∷ 76 ∷ 73 ∷ 68 ∷ 87 ∷ 32 ∷ 50 ∷ 48 ∷ 48 ∷ 56 ∷ 32 ∷ 49 ∷ 56 ∷ 48 ∷ 32 ∷ 48 ∷ 46 ∷ 51 ∷ 51 ∷ 53 ∷ 54 ∷ newline
-    ∷ []
+    header
+    ++ lidw (49 ∷ 55 ∷ 56 ∷ []) missing
+    ++ lidw (49 ∷ 55 ∷ 57 ∷ []) missing
+    ++ lidw (49 ∷ 56 ∷ 48 ∷ []) (48 ∷ 46 ∷ 51 ∷ 53 ∷ 49 ∷ 56 ∷ [])
+    ++ (66 ∷ 69 ∷ 65 ∷ 78 ∷ 32 ∷ 48 ∷ 46 ∷ 49 ∷ 51 ∷ 49 ∷ 57 ∷ newline ∷ [])
+    ++ lidw (49 ∷ 55 ∷ 55 ∷ []) missing
+    ++ lidw (49 ∷ 55 ∷ 56 ∷ []) missing
+    ++ lidw (49 ∷ 55 ∷ 57 ∷ []) missing
+    ++ lidw (49 ∷ 56 ∷ 48 ∷ []) (48 ∷ 46 ∷ 51 ∷ 51 ∷ 53 ∷ 54 ∷ [])
 unfolding wholeReport reportOf outcomeOf readingOf readFrom recordAt stationAt dayAt cropAt wordAt signedOf signedAt badCrop dayLine cropLine padded verdictText inches digits leading
-with-crop =
-    λ i.
-    let n = length (bytesOf (crop-worked i)) in
-    textOf (cond (ltb n n) (outcome.Refused 12 n) (outcome.Written n)) (crop-worked i)
+with-crop = λ i. told (crop-worked i)
 
 -- `LIDW 2008 178 R7`, `LIDW 2008 179 R7`, `LIDW 2008 180 0.3347 E`, `BEAN 0.1255`, `LIDW 2008 181 R7`, and document 01's
 pub with-estimate : wholeReport estimateLog ≡
-    83 ∷ 84 ∷ 78 ∷ 32 ∷ 89 ∷ 69 ∷ 65 ∷ 82 ∷ 32 ∷ 68 ∷ 65 ∷ 89 ∷ 32 ∷ 69 ∷ 84 ∷ newline
-    ∷ 76 ∷ 73 ∷ 68 ∷ 87 ∷ 32 ∷ 50 ∷ 48 ∷ 48 ∷ 56 ∷ 32 ∷ 49 ∷ 55 ∷ 56 ∷ 32 ∷ 82 ∷ 55 ∷ newline
-    ∷ 76 ∷ 73 ∷ 68 ∷ 87 ∷ 32 ∷ 50 ∷ 48 ∷ 48 ∷ 56 ∷ 32 ∷ 49 ∷ 55 ∷ 57 ∷ 32 ∷ 82 ∷ 55 ∷ newline
-    ∷ 76 ∷ 73 ∷ 68 ∷ 87 ∷ 32 ∷ 50 ∷ 48 ∷ 48 ∷ 56 ∷ 32 ∷ 49 ∷ 56 ∷ 48 ∷ 32 ∷ 48 ∷ 46 ∷ 51 ∷ 51 ∷ 52 ∷ 55 ∷ 32 ∷ 69 ∷ newline
-    ∷ 66 ∷ 69 ∷ 65 ∷ 78 ∷ 32 ∷ 48 ∷ 46 ∷ 49 ∷ 50 ∷ 53 ∷ 53 ∷ newline
-    ∷ 76 ∷ 73 ∷ 68 ∷ 87 ∷ 32 ∷ 50 ∷ 48 ∷ 48 ∷ 56 ∷ 32 ∷ 49 ∷ 56 ∷ 49 ∷ 32 ∷ 82 ∷ 55 ∷ newline
-    ∷ 76 ∷ 73 ∷ 68 ∷ 87 ∷ 32 ∷ 50 ∷ 48 ∷ 48 ∷ 56 ∷ 32 ∷ 48 ∷ 49 ∷ 48 ∷ 32 ∷ 82 ∷ 55 ∷ newline
-    ∷ 76 ∷ 73 ∷ 68 ∷ 87 ∷ 32 ∷ 50 ∷ 48 ∷ 48 ∷ 56 ∷ 32 ∷ 48 ∷ 49 ∷ 49 ∷ 32 ∷ 82 ∷ 55 ∷ newline
-    ∷ 76 ∷ 73 ∷ 68 ∷ 87 ∷ 32 ∷ 50 ∷ 48 ∷ 48 ∷ 56 ∷ 32 ∷ 48 ∷ 49 ∷ 50 ∷ 32 ∷ 48 ∷ 46 ∷ 48 ∷ 48 ∷ 48 ∷ 48 ∷ newline
-    ∷ []
+    header
+    ++ lidw (49 ∷ 55 ∷ 56 ∷ []) missing
+    ++ lidw (49 ∷ 55 ∷ 57 ∷ []) missing
+    ++ lidw (49 ∷ 56 ∷ 48 ∷ []) (48 ∷ 46 ∷ 51 ∷ 51 ∷ 52 ∷ 55 ∷ 32 ∷ 69 ∷ [])
+    ++ (66 ∷ 69 ∷ 65 ∷ 78 ∷ 32 ∷ 48 ∷ 46 ∷ 49 ∷ 50 ∷ 53 ∷ 53 ∷ newline ∷ [])
+    ++ lidw (49 ∷ 56 ∷ 49 ∷ []) missing
+    ++ lidw (48 ∷ 49 ∷ 48 ∷ []) missing
+    ++ lidw (48 ∷ 49 ∷ 49 ∷ []) missing
+    ++ lidw (48 ∷ 49 ∷ 50 ∷ []) (48 ∷ 46 ∷ 48 ∷ 48 ∷ 48 ∷ 48 ∷ [])
 unfolding wholeReport reportOf outcomeOf readingOf readFrom recordAt stationAt dayAt cropAt wordAt signedOf signedAt badCrop dayLine cropLine padded verdictText inches digits leading
-with-estimate =
-    λ i.
-    let n = length (bytesOf (estimate-worked i)) in
-    textOf (cond (ltb n n) (outcome.Refused 12 n) (outcome.Written n)) (estimate-worked i)
+with-estimate = λ i. told (estimate-worked i)
