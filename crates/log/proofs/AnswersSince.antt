@@ -23,7 +23,8 @@ use Rattle.log.specs.History.{goodDate, earlierMeans, verdictOf}
 use Rattle.log.specs.Log.{BlockRead, Entry, station, day, crop, cropAnswers, answersFor, answersBy, answersOf}
 use Rattle.log.specs.WithoutSubstitute.{verdictStrictly, answersStrictly, Stays, AllStay, addedTo}
 use Rattle.log.proofs.Carried.{none-refused}
-use Rattle.log.proofs.Counted.{one-most, answers-longer}
+use Rattle.log.proofs.Counted.{answers-longer}
+use Rattle.log.proofs.Placed.{one-most}
 
 -- ---- a day
 
