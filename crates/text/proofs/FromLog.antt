@@ -1,21 +1,40 @@
--- What `read_log` hands back, as the report takes it: the answers in the buffer (`answers-held`), and the text (`report-text`). Assumes
--- nothing.
+-- What `read_log` hands back, as the report takes it: the answers in the buffer (`answers-held`), the length of their lines (`lines-short`), and the
+-- text (`report-text`). Assumes nothing.
 use mathlib.Core.Path.{sym, ap, _∙_, subst}
-use mathlib.Core.List.{List}
+use mathlib.Core.List.{List, _++_}
 use Prim.Native.Nat.{ℕ, _≤_}
+use lib.Dec.{ltb}
 use lib.ListN.{length, drop}
+use borrow.Author.Tests.{ltb-false}
 use Rattle.answers.specs.Answers.{bytesOf}
-use Rattle.log.specs.Log.{longestAnswers, answersTo, leaves, bufferAfter, Read}
+use Rattle.lines.specs.Text.{header}
+use Rattle.log.specs.Log.{longest, answersTo, readingOf, settled, outcomeOf, leaves, bufferAfter, Read}
 use Rattle.log.specs.declared.Outcome.{Outcome}
-use Rattle.log.specs.declared.Outcome.the-variants.{Written}
-use Rattle.log.proofs.OutcomeSize.{Small, outcome-small, written-size}
-use Rattle.text.specs.Report.{textOf, reportOf, Prints}
-use Rattle.text.specs.Walk.{Holds}
+use Rattle.log.specs.declared.Outcome.the-variants.{Written, Refused}
+use Rattle.log.proofs.OutcomeSize.{written-size}
+use Rattle.records.proofs.Choice.{by-cond}
+use Rattle.text.specs.Report.{linesOf, textOf, reportOf, Prints, AreBytes}
+use Rattle.text.specs.Walk.{longestReport, Holds}
 use Rattle.text.specs.declared.Printed.{Printed}
+use Rattle.text.proofs.LongEnough.{text-most}
+
+-- a log that is read to its end is no longer than a log may be
+ShortLog : List ℕ → Outcome → Type 0
+ShortLog s (Written n) = length s ≤ longest
+ShortLog s (Refused number value) = Unit {0}
+
+short-log : (s : List ℕ) (o : Outcome) → length s ≤ longest → ShortLog s o
+unfolding ShortLog
+short-log s (Written n) short = short
+short-log s (Refused number value) short = tt
 
 module _ {s buffer after : List ℕ} where
-  pub answers-few : {n : ℕ} → Read s buffer (Written n) after → n ≤ longestAnswers
-  answers-few h = subst Small (sym (h .outcome)) (outcome-small s (length buffer))
+  pub lines-short : {n : ℕ} → AreBytes s → Read s buffer (Written n) after → length (header ++ linesOf (answersTo s)) ≤ longestReport
+  unfolding outcomeOf ShortLog
+  lines-short bytes h =
+      text-most s bytes
+      (subst (ShortLog s) (sym (h .outcome))
+      (by-cond (ShortLog s) (ltb longest (length s)) (λ e. tt) (λ e. short-log s (settled (readingOf s) (length buffer)) (ltb-false longest (length s) e))))
 
   pub answers-held : {n : ℕ} → Read s buffer (Written n) after → Holds after n (answersTo s)
   unfolding bufferAfter

@@ -19,14 +19,12 @@ nothing-laid true before at =
 nothing-laid false before at = refl
 
 module _ {writes : Bool} {before : List ℕ} {at : ℕ} where
-  -- a line written, or only counted, and no longer than a line's own buffer
-  pub written-line : {text after : List ℕ} {next : ℕ} → length text ≤ 64 → writes ≡ true → Written before at text after next
-      → Laid writes before at text after next × (next ≤ at + 64)
-  written-line short e w = (record { behind = w .behind; bytes = laid-true _ _ _ e (w .bytes) }, omega (arith, w .behind, short))
+  -- a line written, or only counted
+  pub written-line : {text after : List ℕ} {next : ℕ} → writes ≡ true → Written before at text after next → Laid writes before at text after next
+  written-line e w = record { behind = w .behind; bytes = laid-true _ _ _ e (w .bytes) }
 
-  pub counted-line : {text : List ℕ} {n : ℕ} → length text ≤ 64 → writes ≡ false → n ≡ length text
-      → Laid writes before at text before (at + n) × (at + n ≤ at + 64)
-  counted-line short e size = (record { behind = ap (λ (k : ℕ). at + k) size; bytes = laid-false _ _ _ e refl }, omega (arith, size, short))
+  pub counted-line : {text : List ℕ} {n : ℕ} → writes ≡ false → n ≡ length text → Laid writes before at text before (at + n)
+  counted-line e size = record { behind = ap (λ (k : ℕ). at + k) size; bytes = laid-false _ _ _ e refl }
 
   pub laid-none : Laid writes before at [] before at
   laid-none = record { behind = omega arith; bytes = nothing-laid writes before at }

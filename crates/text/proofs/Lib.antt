@@ -1,5 +1,6 @@
 -- The lemmas that belong to no one function.
 pub mod Laid
+pub mod Blocks
 pub mod Going
 pub mod Prints
 pub mod FromLog

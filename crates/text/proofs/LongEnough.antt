@@ -1,14 +1,15 @@
 -- How long a report can be: no day's line is longer than 23 bytes (`line-most`), no crop's than 13 (`crop-most`), and no report than 138,688
 -- (`report-most`). The theorem is `long-enough`. Assumes nothing.
-use mathlib.Core.Path.{_≡_, ap}
+use mathlib.Core.Path.{_≡_, refl, ap}
 use mathlib.Core.Bool.{true, false, not}
 use mathlib.Core.List.{List, [], _∷_, _++_}
 use Prim.Native.Nat.{ℕ, _+_, _*_, _≤_, _<_}
 use native.Mathlib.Omega.{arith}
-use lib.Dec.{ltb}
+use lib.Dec.{ltb, lit≤}
 use lib.ListN.{length, length-append}
 use borrow.Author.Tests.{ltb-false}
 use Rattle.answers.specs.declared.Answer.{Answer}
+use Rattle.answers.specs.declared.Answer.the-variants as answer
 use Rattle.crops.specs.Crop.{badCrop, inSeason, cropFigure}
 use Rattle.crops.specs.declared.Crop.{Crop}
 use Rattle.crops.proofs.CropFigure.{twice-most}
@@ -27,7 +28,7 @@ use Rattle.day.proofs.Passed.{day-high}
 use Rattle.records.specs.Bytes.{wordAt}
 use Rattle.records.specs.Record.{dayAt}
 use Rattle.records.proofs.Choice.{by-cond}
-use Rattle.answers.specs.Answers.{bytesOf}
+use Rattle.answers.specs.Answers.{dayAnswer, bytesOf}
 use Rattle.log.specs.History.{goodDate, earlierMeans, verdictOf}
 use Rattle.log.specs.Log.{Planted, bare, planted, Entry, station, day, crop, cropAnswer, cropAnswers, longest, longestAnswers, answersTo, answersOf, readingOf, entriesOf, outcomeOf, settled}
 use Rattle.log.specs.declared.Outcome.{Outcome}
@@ -39,16 +40,14 @@ use Rattle.log.proofs.Counted.{daysOf, figuresOf}
 use Rattle.log.proofs.Longest.{answers-most, lines-room}
 use Rattle.log.proofs.OutcomeSize.{Small, outcome-small, outcome-alike}
 use Rattle.log.proofs.Stations.{Sound, SoundEntries, sound-reading, station-constants}
-use Rattle.text.specs.Report.{linesFrom, linesOf, textOf, reportOf, wholeReport, AreBytes, LongEnough}
+use Rattle.text.specs.Report.{linesOf, textOf, reportOf, wholeReport, AreBytes, LongEnough}
+use Rattle.text.specs.Walk.{longestReport, printed, linesFrom}
+use Rattle.text.proofs.Blocks.{prints-size}
 use Rattle.lines.specs.Text.{header, verdictText, dayLine, cropLine}
 use Rattle.text.specs.declared.walk.Open.{Open}
 use Rattle.text.specs.declared.walk.Open.the-variants.{NoBlock, In}
 use Rattle.lines.proofs.Digits.{padded-most, inches-most}
 use Rattle.lines.proofs.Lengths.{refusal-most, estimate-size, day-line-size, crop-line-size, refused-line-most}
-
--- the header, and the most bytes that the lines can have
-abbrev pub longestReport : ℕ
-longestReport = 138688
 
 module _ (s : List ℕ) (bytes : AreBytes s) where
   -- ---- a day's line
@@ -97,10 +96,10 @@ module _ (s : List ℕ) (bytes : AreBytes s) where
         by (Refused r) small date = refused-most r
         by (Estimated n) small date = dated-line-most date (Estimated n) (omega (arith, estimate-size n, inches-most 0 n (omega arith)))
 
-    figure-small : FigureAtMost mostFigure (verdictOf x h y)
-    unfolding verdictOf
-    figure-small =
-        by-cond (FigureAtMost mostFigure) (goodDate h y) (λ good. figure-most x y (earlierMeans h y) (station-constants sound)) (λ bad. tt)
+  figure-small : (x : Station) (h : List Day) (y : Day) → Sound s x → FigureAtMost mostFigure (verdictOf x h y)
+  unfolding verdictOf
+  figure-small x h y sound =
+      by-cond (FigureAtMost mostFigure) (goodDate h y) (λ good. figure-most x y (earlierMeans h y) (station-constants sound)) (λ bad. tt)
 
   -- ---- a crop's line: two digits before the point at most
 
@@ -115,11 +114,16 @@ module _ (s : List ℕ) (bytes : AreBytes s) where
     abbrev Few : List Answer → Type 0
     Few l = length (linesFrom block (l ++ rest)) ≤ 13 * length l + length (linesFrom block rest)
 
+    one-few : (code : Code) (n : ℕ) → length (cropLine code n) ≤ 13 → Few (answer.Crop code n ∷ [])
+    one-few code n short = omega (arith, prints-size block (answer.Crop code n) rest, by block)
+      where
+        by : (b : Open) → length (printed b (answer.Crop code n)) ≤ 13
+        by NoBlock = lit≤ tt
+        by (In kept) = short
+
     crop-few : (c : Crop) (y : Day) → badCrop c ≡ false → {n : ℕ} → n ≤ mostFigure → Few (cropAnswer c y n)
     crop-few c y sound {n} small =
-        by-cond Few (inSeason c (y .year) (y .d))
-        (λ e. omega (arith, crop-most c y sound small, length-append (cropLine (c .code) (cropFigure c (y .d) n)) (linesFrom block rest)))
-        (λ e. omega arith)
+        by-cond Few (inSeason c (y .year) (y .d)) (λ e. one-few (c .code) (cropFigure c (y .d) n) (crop-most c y sound small)) (λ e. omega arith)
 
     crops-most : (pl : Planted) (y : Day) (v : Verdict) → PlantedSound pl → FigureAtMost mostFigure v → Few (cropAnswers pl y v)
     crops-most bare y v sound small = omega arith
@@ -130,31 +134,34 @@ module _ (s : List ℕ) (bytes : AreBytes s) where
   -- ---- the report
 
   lines-most : (es : List Entry) → SoundEntries s es → (block : Open) → length (linesFrom block (answersOf es)) ≤ 23 * daysOf es + 13 * figuresOf es
-  lines-most [] f block = omega arith
-  lines-most (station x ∷ es) f block = lines-most es (f .1) (In (x .code))
+  lines-most [] f NoBlock = omega arith
+  lines-most [] f (In code) = omega arith
+  lines-most (station x ∷ es) f block = omega (arith, prints-size block (answer.Station (x .code)) (answersOf es), lines-most es (f .1) (In (x .code)), by block)
+    where
+      by : (b : Open) → length (printed b (answer.Station (x .code))) ≡ 0
+      by NoBlock = refl
+      by (In code) = refl
   lines-most (crop b c ∷ es) f block = lines-most es (f .1) block
-  lines-most (day b y ∷ es) f NoBlock =
+  lines-most (day b y ∷ es) f block =
       omega (
         arith,
-        lines-most es (f .1) NoBlock,
-        crops-most NoBlock (answersOf es) (b .crop) y (verdictOf (b .station) (b .days) y) (f .0 .0 .1)
-            (figure-small (b .station .code) (b .station) (b .days) y (f .0 .0 .0) (f .0 .1)),
+        lines-most es (f .1) block,
+        prints-size block (dayAnswer y v) (cropAnswers (b .crop) y v ++ answersOf es),
+        by block,
+        crops-most block (answersOf es) (b .crop) y v (f .0 .0 .1) (figure-small (b .station) (b .days) y (f .0 .0 .0)),
       )
-  lines-most (day b y ∷ es) f (In code) =
-      omega (
-        arith,
-        lines-most es (f .1) (In code),
-        line-most code (b .station) (b .days) y (f .0 .0 .0) (f .0 .1),
-        crops-most (In code) (answersOf es) (b .crop) y (verdictOf (b .station) (b .days) y) (f .0 .0 .1)
-            (figure-small code (b .station) (b .days) y (f .0 .0 .0) (f .0 .1)),
-        length-append (dayLine code (y .year) (y .d) (verdictOf (b .station) (b .days) y))
-            (linesFrom (In code) (cropAnswers (b .crop) y (verdictOf (b .station) (b .days) y) ++ answersOf es)),
-      )
+    where
+      v : Verdict
+      v = verdictOf (b .station) (b .days) y
+
+      by : (o : Open) → length (printed o (dayAnswer y v)) ≤ 23
+      by NoBlock = lit≤ tt
+      by (In code) = line-most code (b .station) (b .days) y (f .0 .0 .0) (f .0 .1)
 
   abbrev Short : Outcome → Type 0
   Short o = length (textOf o (answersTo s)) ≤ longestReport
 
-  text-most : length s ≤ longest → length (header ++ linesOf (answersTo s)) ≤ longestReport
+  pub text-most : length s ≤ longest → length (header ++ linesOf (answersTo s)) ≤ longestReport
   text-most short =
       omega (
         arith,

@@ -7,6 +7,7 @@ use Prim.Native.Nat.{ℕ, _≤_, _<_}
 use lib.Dec.{ltb}
 use lib.ListN.{length, drop, getD}
 use Rattle.answers.specs.Answers.{bytesOf}
+use Rattle.day.specs.declared.Code.{Code}
 use Rattle.log.specs.Log.{longest, outcomeOf, answersTo}
 use Rattle.answers.specs.declared.Answer.{Answer}
 use Rattle.answers.specs.declared.Answer.the-variants as answer
@@ -15,35 +16,36 @@ use Rattle.log.specs.declared.Outcome.the-variants as outcome
 use Rattle.lines.specs.Text.{header, dayLine, cropLine, refusedLine}
 use Rattle.text.specs.declared.Printed.{Printed}
 use Rattle.text.specs.declared.Printed.the-variants.{Written, Needs}
-use Rattle.text.specs.declared.walk.Open.{Open}
-use Rattle.text.specs.declared.walk.Open.the-variants.{NoBlock, In}
 
--- "lines about a whole block follow all its answers": there are none yet
-abbrev pub aboutBlock : Open → List ℕ
-aboutBlock block = []
-
--- "An answer kind that a request adds prints its fields after the kind in the same way, figures in inches, in answer order."
--- What an answer prints: a day has its line, with its block's code, and a crop's figure has one. "A station prints no line of its own", but where it
--- stands the block before it has ended. No log answers a day before a station: it is refused with 4 (`station-first` in log/proofs/Longest.antt).
-abbrev pub lineOf : Open → Answer → List ℕ
-lineOf block (answer.Station code) = aboutBlock block
-lineOf NoBlock (answer.Day year d verdict) = []
-lineOf (In code) (answer.Day year d verdict) = dayLine code year d verdict
+-- "An answer kind that a request adds prints its fields after the kind in the same way, figures in inches": a day has its line, with its block's code,
+-- and a crop's figure has one. "A station prints no line of its own".
+abbrev pub lineOf : Code → Answer → List ℕ
+lineOf block (answer.Station code) = []
+lineOf block (answer.Day year d verdict) = dayLine block year d verdict
 lineOf block (answer.Crop code n) = cropLine code n
 
--- the block that is open after an answer
-abbrev pub openAfter : Open → Answer → Open
-openAfter block (answer.Station code) = In code
-openAfter block (answer.Day year d verdict) = block
-openAfter block (answer.Crop code n) = block
-
 -- "in answer order"
-abbrev pub linesFrom : Open → List Answer → List ℕ
-linesFrom block [] = aboutBlock block
-linesFrom block (a ∷ rest) = lineOf block a ++ linesFrom (openAfter block a) rest
+abbrev pub answerLines : Code → List Answer → List ℕ
+answerLines block [] = []
+answerLines block (a ∷ rest) = lineOf block a ++ answerLines block rest
 
+-- "lines about a whole block follow all its answers": there are none yet
+abbrev pub aboutBlock : Code → List Answer → List ℕ
+aboutBlock block answers = []
+
+-- the answers of the block that is open: those before the next station
+abbrev pub own : List Answer → List Answer
+own [] = []
+own (answer.Station code ∷ rest) = []
+own (answer.Day year d verdict ∷ rest) = answer.Day year d verdict ∷ own rest
+own (answer.Crop code n ∷ rest) = answer.Crop code n ∷ own rest
+
+-- block after block. No log answers a day before a station: it is refused with 4 (`station-first` in log/proofs/Longest.antt).
 abbrev pub linesOf : List Answer → List ℕ
-linesOf answers = linesFrom NoBlock answers
+linesOf [] = []
+linesOf (answer.Station code ∷ rest) = answerLines code (own rest) ++ (aboutBlock code (own rest) ++ linesOf rest)
+linesOf (answer.Day year d verdict ∷ rest) = linesOf rest
+linesOf (answer.Crop code n ∷ rest) = linesOf rest
 
 -- "a log of 0 bytes prints the header alone"; a refused log prints its line and nothing else
 abbrev pub textOf : Outcome → List Answer → List ℕ

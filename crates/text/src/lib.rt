@@ -5,12 +5,12 @@ ghost use Prim.Native.Nat.{_≤_};
 ghost use lib.ListN.{length};
 ghost use Rattle.log.specs.CropFigures.{CropFiguresOwed};
 ghost use Rattle.log.specs.Demand.{FiguresOwed};
-ghost use Rattle.log.specs.Log.{longestAnswers, bufferAfter};
+ghost use Rattle.log.specs.Log.{bufferAfter};
 ghost use Rattle.answers.specs.declared.Answer.{Answer as Answered};
 ghost use Rattle.text.specs.Report.{linesOf, reportOf, wholeReport, Prints};
 ghost use Rattle.lines.specs.Text.{header as Text·header};
 ghost use Rattle.lines.specs.Text.{refusedLine};
-ghost use Rattle.text.specs.Walk.{Holds};
+ghost use Rattle.text.specs.Walk.{longestReport, Holds};
 ghost use Rattle.lines.specs.Written.{AtFront};
 use log::Outcome;
 use log::read_log;
@@ -43,8 +43,7 @@ fn print_refused(number: u8, value: usize, text: &mut [u8]) -> Printed
 
 // The header and the lines of the answers that the first n bytes hold. They are counted first, so that a text buffer that is too short is left as it was.
 fn print_answers(answers: &[u8], n: usize, text: &mut [u8]) -> Printed
-    requires { ⌜ n ≤ longestAnswers ⌝ }
-    requires { ⌜ ((all : List Answered) × Holds (now answers) n all) ⌝ }
+    requires { ⌜ ((all : List Answered) × Holds (now answers) n all × (length (Text·header ++ linesOf all) ≤ longestReport)) ⌝ }
     ensures { λ r. ⌜ ((all : List Answered) → Holds (now (answers .entry)) n all → Prints (Text·header ++ linesOf all) (now (text .entry)) r (now (text .exit))) ⌝ }
 {
     let mut line = [0u8; 64];

@@ -1,14 +1,10 @@
 // The walk over a log's answers, which lays their lines over a text or only counts them.
-ghost use mathlib.Core.Bool.{true};
 ghost use mathlib.Core.List.{List};
 ghost use mathlib.Core.Path.{_≡_};
-ghost use Prim.Native.Nat.{_+_, _≤_};
-ghost use lib.ListN.{length};
-ghost use Rattle.log.specs.Log.{longestAnswers};
 ghost use Rattle.answers.specs.declared.Answer.{Answer as Answered};
-ghost use Rattle.text.specs.Report.{lineOf, openAfter, linesOf};
+ghost use Rattle.text.specs.Report.{linesOf};
 ghost use Rattle.lines.specs.Text.{dayLine, cropLine};
-ghost use Rattle.text.specs.Walk.{farthest, Holds, Laid};
+ghost use Rattle.text.specs.Walk.{Holds, Room, Laid, openAfter, printed};
 use answers::Answer;
 use answers::read_back::answer_at;
 use answers::read_back::size;
@@ -35,9 +31,8 @@ fn put_day(
     verdict: Verdict,
     writes: bool,
 ) -> usize
-    requires { ⌜ to ≤ farthest ⌝ }
-    requires { ⌜ (writes ≡ true → to + length (dayLine code year d verdict) ≤ length (now text)) ⌝ }
-    ensures { λ r. ⌜ Laid writes (now (text .entry)) to (dayLine code year d verdict) (now (text .exit)) r × (r ≤ to + 64) ⌝ }
+    requires { ⌜ Room writes (now text) to (dayLine code year d verdict) ⌝ }
+    ensures { λ r. ⌜ Laid writes (now (text .entry)) to (dayLine code year d verdict) (now (text .exit)) r ⌝ }
 {
     if writes {
         return put_day_line(text, to, code, year, d, verdict);
@@ -48,9 +43,8 @@ fn put_day(
 
 // The line of a crop's figure from `to` on.
 fn put_crop(text: &mut [u8], to: usize, code: Code, n: u32, writes: bool) -> usize
-    requires { ⌜ to ≤ farthest ⌝ }
-    requires { ⌜ (writes ≡ true → to + length (cropLine code n) ≤ length (now text)) ⌝ }
-    ensures { λ r. ⌜ Laid writes (now (text .entry)) to (cropLine code n) (now (text .exit)) r × (r ≤ to + 64) ⌝ }
+    requires { ⌜ Room writes (now text) to (cropLine code n) ⌝ }
+    ensures { λ r. ⌜ Laid writes (now (text .entry)) to (cropLine code n) (now (text .exit)) r ⌝ }
 {
     if writes {
         return put_crop_line(text, to, code, n);
@@ -61,17 +55,16 @@ fn put_crop(text: &mut [u8], to: usize, code: Code, n: u32, writes: bool) -> usi
 
 // What an answer prints, from `to` on.
 fn put_line(text: &mut [u8], to: usize, block: Open, a: Answer, writes: bool) -> usize
-    requires { ⌜ to ≤ farthest ⌝ }
-    requires { ⌜ (writes ≡ true → to + length (lineOf block a) ≤ length (now text)) ⌝ }
-    ensures { λ r. ⌜ Laid writes (now (text .entry)) to (lineOf block a) (now (text .exit)) r × (r ≤ to + 64) ⌝ }
+    requires { ⌜ Room writes (now text) to (printed block a) ⌝ }
+    ensures { λ r. ⌜ Laid writes (now (text .entry)) to (printed block a) (now (text .exit)) r ⌝ }
 {
-    match a {
-        Answer::Station(_) => to,
-        Answer::Day(year, d, verdict) => match block {
-            Open::NoBlock => to,
-            Open::In(code) => put_day(text, to, code, year, d, verdict, writes),
+    match block {
+        Open::NoBlock => to,
+        Open::In(code) => match a {
+            Answer::Station(_) => to,
+            Answer::Day(year, d, verdict) => put_day(text, to, code, year, d, verdict, writes),
+            Answer::Crop(crop, n) => put_crop(text, to, crop, n, writes),
         },
-        Answer::Crop(code, n) => put_crop(text, to, code, n, writes),
     }
 }
 
@@ -88,8 +81,7 @@ fn open_after(block: Open, a: Answer) -> Open
 
 // The lines of the answers that the first n bytes hold, from `start` on.
 pub fn put_lines(answers: &[u8], n: usize, text: &mut [u8], start: usize, writes: bool) -> usize
-    requires { ⌜ (n ≤ longestAnswers) × (start ≤ 64) ⌝ }
-    requires { ⌜ ((all : List Answered) × Holds (now answers) n all × (writes ≡ true → start + length (linesOf all) ≤ length (now text))) ⌝ }
+    requires { ⌜ ((all : List Answered) × Holds (now answers) n all × Room writes (now text) start (linesOf all)) ⌝ }
     ensures { λ r. ⌜ ((all : List Answered) → Holds (now (answers .entry)) n all → Laid writes (now (text .entry)) start (linesOf all) (now (text .exit)) r) ⌝ }
 {
     let mut at: usize = 0;

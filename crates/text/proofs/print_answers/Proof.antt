@@ -4,7 +4,7 @@ use mathlib.Core.Bool.{true, false}
 use mathlib.Core.List.{List, _++_}
 use Prim.Native.Nat.{ℕ, _+_, _≤_}
 use native.Mathlib.Omega.{arith}
-use lib.ListN.{length}
+use lib.ListN.{length, length-append}
 use denote.Ref.{now}
 use borrow.Author.Needs.{needs}
 use Rattle.answers.specs.declared.Answer.{Answer}
@@ -22,7 +22,7 @@ never w = let z : _≡_ {A = ℕ} 0 1 = cc in absurd (omega arith)
 put-lines-requires : tie.Need-put-lines-requires
 put-lines-requires c κs =
     let s = c .before .before .before .before .before in
-    ((s .pre .0, omega (arith, c .before .header .ensures .size)), (s .pre .1 .0, s .pre .1 .1, λ w. never w))
+    (s .pre .0, s .pre .1, (omega (arith, c .before .header .ensures .size, s .pre .2, length-append header (linesOf (s .pre .0))), λ w. never w))
 
 -- the length that the first pass counts, and the buffer as it leaves it
 module _ (c : tie.After-put-lines) where
@@ -46,7 +46,7 @@ module _ (c : tie.Else1) where
   fits all h = omega (arith, size pass all h, c .if1 .left)
 
 put-header-requires : tie.Need-put-header-requires
-put-header-requires c κs = let pre = s (pass (c .before)) .pre in omega (arith, fits (c .before) (pre .1 .0) (pre .1 .1))
+put-header-requires c κs = let pre = s (pass (c .before)) .pre in omega (arith, fits (c .before) (pre .0) (pre .1))
 
 module _ (c : tie.After-put-header) where
   abbrev enough : tie.Else1
@@ -59,7 +59,7 @@ put-lines-requires-2 : tie.Need-put-lines-requires-2
 put-lines-requires-2 c κs =
     let head = c .before .before .before in
     let pre = s (pass (enough head)) .pre in
-    ((pre .0, omega (arith, head .put-header .ensures .behind)), (pre .1 .0, pre .1 .1, λ w. room head (pre .1 .0) (pre .1 .1)))
+    (pre .0, pre .1, (omega (arith, head .put-header .ensures .behind, pre .2, length-append header (linesOf (pre .0))), λ w. room head (pre .0) (pre .1)))
 
 returns-2 : tie.Need-returns-2
 returns-2 c = λ all h.

@@ -1,16 +1,24 @@
 -- `text::write_report` meets its contract. Assumes nothing.
 use mathlib.Core.Path.{_≡_, subst}
+use native.Mathlib.Omega.{arith}
 use denote.Ref.{now}
 use borrow.Author.Needs.{needs}
 use Rattle.log.specs.Log.{answersTo, Read}
 use Rattle.log.specs.declared.Outcome.{Outcome}
-use Rattle.text.proofs.FromLog.{answers-few, answers-held, report-text}
+use Rattle.text.specs.Report.{AreBytes}
+use Rattle.text.proofs.FromLog.{lines-short, answers-held, report-text}
 use Rattle.text.proofs.write_report.Statement.{statement}
 use Rattle.text.proofs.write_report.Tie as tie
 
 module _ (c : tie.After-read-log) where
+  abbrev known : tie.After-shared-slice-known
+  known = c .before .before .before .before
+
   abbrev s : tie.Start
-  s = c .before .before .before .before .before
+  s = known .before
+
+  bytes : AreBytes (now (s .args .log))
+  bytes i = omega (arith, known .shared-slice-known .given i)
 
   read : {o : Outcome} → c .read-log .result ≡ o → Read (now (s .args .log)) (now (s .args .answers)) o (c .read-log .last .1 .0)
   read e = subst (λ (o : Outcome). Read (now (s .args .log)) (now (s .args .answers)) o (c .read-log .last .1 .0)) e (c .read-log .ensures .0)
@@ -18,8 +26,9 @@ module _ (c : tie.After-read-log) where
 print-answers-requires : tie.Need-print-answers-requires
 print-answers-requires c κs =
     let n = c .before .before .before in
-    let h = read (n .before .before .before .before) (n .n .given .1) in
-    (answers-few h, (answersTo _, answers-held h))
+    let log = n .before .before .before .before in
+    let h = read log (n .n .given .1) in
+    (answersTo _, answers-held h, lines-short (bytes log) h)
 
 returns : tie.Need-returns
 returns c =

@@ -1,16 +1,9 @@
 -- `text::walk::put_crop` meets its contract. Assumes nothing.
-use Prim.Native.Nat.{_≤_}
 use native.Mathlib.Omega.{arith}
-use lib.ListN.{length}
 use borrow.Author.Needs.{needs}
-use Rattle.lines.specs.Text.{cropLine}
 use Rattle.text.proofs.Laid.{written-line, counted-line}
-use Rattle.lines.proofs.Lengths.{crop-line-most}
 use Rattle.text.proofs.walk.put_crop.Statement.{statement}
 use Rattle.text.proofs.walk.put_crop.Tie as tie
-
-short : (s : tie.Start) → let x = s .args in length (cropLine (x .code) (x .n)) ≤ 64
-short s = let x = s .args in crop-line-most (x .code) (x .n) (omega arith)
 
 put-crop-line-requires : tie.Need-put-crop-line-requires
 put-crop-line-requires c κs = c .before .before .before .pre .1 (c .before .if1 .taken)
@@ -19,13 +12,13 @@ returns : tie.Need-returns
 returns c =
     let called = c .before .before in
     let wrote = called .before .before in
-    written-line (short (wrote .before .before)) (wrote .if1 .taken) (called .put-crop-line .ensures)
+    written-line (wrote .if1 .taken) (called .put-crop-line .ensures)
 
 add-result : tie.Need-add-result
-add-result c = omega (arith, c .crop-line .ensures .size, short (c .before .before .before .before))
+add-result c = omega (arith, c .crop-line .ensures .size, c .before .before .before .before .pre .0)
 
 returns-2 : tie.Need-returns-2
-returns-2 c = counted-line (short (c .before .before .before .before)) (c .before .before .if1 .left) (c .crop-line .ensures .size)
+returns-2 c = counted-line (c .before .before .if1 .left) (c .crop-line .ensures .size)
 
 pub put-crop-spec : {M : Type 1} → statement M
 put-crop-spec = tie.close (tie.spec put-crop-line-requires (λ c. search needs) returns (λ c κs. search needs) add-result returns-2)

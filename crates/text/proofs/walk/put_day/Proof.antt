@@ -1,16 +1,9 @@
 -- `text::walk::put_day` meets its contract. Assumes nothing.
-use Prim.Native.Nat.{_≤_}
 use native.Mathlib.Omega.{arith}
-use lib.ListN.{length}
 use borrow.Author.Needs.{needs}
-use Rattle.lines.specs.Text.{dayLine}
 use Rattle.text.proofs.Laid.{written-line, counted-line}
-use Rattle.lines.proofs.Lengths.{day-line-most}
 use Rattle.text.proofs.walk.put_day.Statement.{statement}
 use Rattle.text.proofs.walk.put_day.Tie as tie
-
-short : (s : tie.Start) → let x = s .args in length (dayLine (x .code) (x .year) (x .d) (x .verdict)) ≤ 64
-short s = let x = s .args in day-line-most (x .code) (x .year) (x .d) (x .verdict) (omega arith) (omega arith) (s .good .1 .1 .1 .1 .1 .0)
 
 put-day-line-requires : tie.Need-put-day-line-requires
 put-day-line-requires c κs = c .before .before .before .pre .1 (c .before .if1 .taken)
@@ -19,13 +12,13 @@ returns : tie.Need-returns
 returns c =
     let called = c .before .before in
     let wrote = called .before .before in
-    written-line (short (wrote .before .before)) (wrote .if1 .taken) (called .put-day-line .ensures)
+    written-line (wrote .if1 .taken) (called .put-day-line .ensures)
 
 add-result : tie.Need-add-result
-add-result c = omega (arith, c .day-line .ensures .size, short (c .before .before .before .before))
+add-result c = omega (arith, c .day-line .ensures .size, c .before .before .before .before .pre .0)
 
 returns-2 : tie.Need-returns-2
-returns-2 c = counted-line (short (c .before .before .before .before)) (c .before .before .if1 .left) (c .day-line .ensures .size)
+returns-2 c = counted-line (c .before .before .if1 .left) (c .day-line .ensures .size)
 
 pub put-day-spec : {M : Type 1} → statement M
 put-day-spec = tie.close (tie.spec put-day-line-requires (λ c. search needs) returns (λ c κs. search needs) add-result returns-2)

@@ -1,49 +1,50 @@
 -- `text::walk::put_line` meets its contract. Assumes nothing.
-use mathlib.Core.Path.{ap, ap₂}
-use native.Mathlib.Omega.{arith}
-use Prim.Native.Nat.{ℕ}
-use lib.ListN.{length}
-use Rattle.answers.specs.declared.Answer.{Answer}
-use Rattle.text.specs.Report.{lineOf}
-use Rattle.text.specs.declared.walk.Open.{Open}
+use mathlib.Core.Path.{subst₂}
 use borrow.Author.Needs.{needs}
+use denote.Ref.{now}
+use Rattle.answers.specs.declared.Answer.{Answer}
+use Rattle.text.specs.Walk.{Room, printed}
+use Rattle.text.specs.declared.walk.Open.{Open}
 use Rattle.text.proofs.Laid.{laid-none}
 use Rattle.text.proofs.walk.put_line.Statement.{statement}
 use Rattle.text.proofs.walk.put_line.Tie as tie
 
-abbrev size : Open → Answer → ℕ
-size block a = length (lineOf block a)
+-- there is room for what an answer prints in a block
+module _ (s : tie.Start) where
+  abbrev HasRoom : Open → Answer → Type 0
+  HasRoom block a = let x = s .args in Room (x .writes) (now (x .text)) (x .to) (printed block a)
 
 put-day-requires : tie.Need-put-day-requires
 put-day-requires c κs =
     let told = c .before .before in
-    let day = told .before .before .before in
-    let s = day .before .before .before in
-    (s .pre .0, λ w. omega (arith, s .pre .1 w, ap₂ size (told .block .given .1) (day .a .given .1)))
+    let block = told .before .before .before in
+    let s = block .before .before .before in
+    subst₂ (HasRoom s) (block .block .given .1) (told .a .given .1) (s .pre)
 
 put-crop-requires : tie.Need-put-crop-requires
 put-crop-requires c κs =
     let told = c .before .before in
-    let s = told .before .before .before in
-    (s .pre .0, λ w. omega (arith, s .pre .1 w, ap (λ (a : Answer). size (s .args .block) a) (told .a2 .given .1)))
+    let block = told .before .before .before in
+    let s = block .before .before .before in
+    subst₂ (HasRoom s) (block .block .given .1) (told .a2 .given .1) (s .pre)
 
 returns : tie.Need-returns
-returns c = rw (c .enum-told .given .1) (laid-none, omega arith)
+returns c = rw (c .enum-told .given .1) laid-none
 
 returns-2 : tie.Need-returns-2
-returns-2 c = rw (c .before .before .before .a .given .1, c .enum-told2 .given .1) (laid-none, omega arith)
+returns-2 c = rw (c .before .before .before .block .given .1, c .enum-told2 .given .1) laid-none
 
 returns-3 : tie.Need-returns-3
 returns-3 c =
     let called = c .before .before in
     let told = called .before .before .before in
-    let day = told .before .before .before in
-    rw (day .a .given .1, told .block .given .1) (called .put-day .ensures)
+    rw (told .before .before .before .block .given .1, told .a .given .1) (called .put-day .ensures)
 
 returns-4 : tie.Need-returns-4
 returns-4 c =
     let called = c .before .before in
-    rw (called .before .before .before .a2 .given .1) (called .put-crop .ensures)
+    let told = called .before .before .before in
+    rw (told .before .before .before .block .given .1, told .a2 .given .1) (called .put-crop .ensures)
 
 pub put-line-spec : {M : Type 1} → statement M
 put-line-spec =
