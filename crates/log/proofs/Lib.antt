@@ -22,6 +22,7 @@ pub mod TwoParts
 pub mod OutcomeSize
 pub mod Counted
 pub mod Longest
+pub mod DateOrder
 pub mod WithoutKind
 pub mod WithoutCrops
 pub mod FirstStation

@@ -2,6 +2,7 @@
 pub mod History
 pub mod Log
 pub mod Days
+pub mod DateOrder
 pub mod Demand
 pub mod CropFigures
 pub mod WithoutKind
