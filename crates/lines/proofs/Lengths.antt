@@ -1,8 +1,9 @@
--- How long a line is: the sum of its fields (`day-line-size`, `crop-line-size`, `refused-line-size`), and never more than the lent 64 bytes (`day-line-most`,
--- `crop-line-most`, `refused-line-most`). Assumes nothing.
+-- How long a line is: the sum of its fields (`day-line-size`, `crop-line-size`, `month-line-size`, `season-line-size`, `refused-line-size`), and never more
+-- than the lent 64 bytes (`day-line-most`, `crop-line-most`, `month-line-most`, `season-line-most`, `refused-line-most`). What a log's totals can be makes
+-- shorter lines: `month-line-of-log`, `season-line-of-log`, `month-line-of-day`. Assumes nothing.
 use mathlib.Core.Path.{_≡_, ap}
 use mathlib.Core.List.{[], _∷_}
-use Prim.Native.Nat.{ℕ, _+_, _^_, _≤_, _<_}
+use Prim.Native.Nat.{ℕ, suc, _+_, _/_, _^_, _≤_, _<_}
 use native.Mathlib.Omega.{arith}
 use lib.Dec.{lit<}
 use lib.ListN.{length, length-append}
@@ -17,7 +18,7 @@ use Rattle.day.specs.declared.Refusal.{Refusal}
 use Rattle.day.specs.declared.Refusal.the-variants.{StationField, BadDate, Missing, OutOfRange, OutOfOrder, AboveClear, SumBelowOne}
 use Rattle.day.specs.declared.Verdict.{Verdict}
 use Rattle.day.specs.declared.Verdict.the-variants.{Figure, Refused, Estimated}
-use Rattle.lines.specs.Text.{digits, padded, inches, field, verdictText, dayLine, cropLine, refusedLine}
+use Rattle.lines.specs.Text.{digits, padded, inches, field, verdictText, dayLine, cropLine, totals, monthLine, seasonLine, refusedLine}
 use Rattle.lines.proofs.Digits.{padded-short, digits-most, padded-most, inches-most}
 
 -- what holds of a verdict that code is handed: its figure fits in 32 bits
@@ -68,6 +69,59 @@ crop-line-size code n = simp length-append
 
 pub crop-line-most : (code : Code) (n : ℕ) → n < 2 ^ 32 → length (cropLine code n) ≤ 64
 crop-line-most code n fits = omega (arith, crop-line-size code n, inches-most 5 n (omega arith))
+
+pub totals-size : (days sum : ℕ) → length (totals days sum) ≡ length (field (padded 0 days)) + length (field (inches sum)) + 1
+unfolding totals
+totals-size days sum = simp length-append (omega (arith, ap length (padded-short 0 days (omega arith))))
+
+-- at most i + 1 digits of the days, j + 1 of the inches, a point and 4 decimals, two spaces and a newline
+totals-most : (i j days sum : ℕ) → days < 10 ^ suc i → sum / 10_000 < 10 ^ suc j → length (totals days sum) ≤ i + j + 10
+totals-most i j days sum few small = omega (arith, totals-size days sum, padded-most i 0 days (omega arith) few, inches-most j sum small)
+
+module _ (code : Code) (year month days sum : ℕ) where
+  pub month-line-size :
+      length (monthLine code year month days sum) ≡ 4 + length (field (padded 4 year)) + length (field (padded 2 month)) + length (totals days sum)
+  unfolding monthLine
+  month-line-size = simp length-append
+
+  -- at most a + 1 digits of the year, b + 1 of the month, and the totals as above
+  month-line-digits : (a b i j : ℕ) → 3 ≤ a → 1 ≤ b → year < 10 ^ suc a → month < 10 ^ suc b → days < 10 ^ suc i → sum / 10_000 < 10 ^ suc j
+      → length (monthLine code year month days sum) ≤ a + b + i + j + 18
+  month-line-digits a b i j four two year-fits month-fits days-fit sum-fits =
+      omega (
+        arith,
+        month-line-size,
+        padded-most a 4 year (omega arith) year-fits,
+        padded-most b 2 month (omega arith) month-fits,
+        totals-most i j days sum days-fit sum-fits,
+      )
+
+  pub month-line-most : year < 2 ^ 16 → month < 2 ^ 16 → days < 2 ^ 32 → sum < 2 ^ 64 → length (monthLine code year month days sum) ≤ 64
+  month-line-most year-fits month-fits days-fit sum-fits =
+      omega (arith, month-line-digits 4 4 9 15 (omega arith) (omega arith) (omega arith) (omega arith) (omega arith) (omega arith))
+
+  -- a month of the calendar, with fewer than 10,000 days and less than 100,000 inches
+  pub month-line-of-log : year ≤ 9_999 → month ≤ 99 → days < 10_000 → sum < 1_000_000_000 → length (monthLine code year month days sum) ≤ 29
+  month-line-of-log dated in-year few small =
+      omega (arith, month-line-digits 3 1 3 4 (omega arith) (omega arith) (omega arith) (omega arith) (omega arith) (omega arith))
+
+  -- one with fewer than ten days and at most 8 inches, as one day has
+  pub month-line-of-day : year ≤ 9_999 → month ≤ 99 → days < 10 → sum ≤ 80_000 → length (monthLine code year month days sum) ≤ 22
+  month-line-of-day dated in-year few small =
+      omega (arith, month-line-digits 3 1 0 0 (omega arith) (omega arith) (omega arith) (omega arith) (omega arith) (omega arith))
+
+pub season-line-size : (code : Code) (days sum : ℕ) → length (seasonLine code days sum) ≡ 8 + length (totals days sum)
+unfolding seasonLine
+season-line-size code days sum = simp length-append
+
+pub season-line-most : (code : Code) (days sum : ℕ) → days < 2 ^ 32 → sum < 2 ^ 64 → length (seasonLine code days sum) ≤ 64
+season-line-most code days sum days-fit sum-fits =
+    omega (arith, season-line-size code days sum, totals-most 9 15 days sum (omega arith) (omega arith))
+
+-- a season of fewer than 10,000 days and less than 100,000 inches
+pub season-line-of-log : (code : Code) (days sum : ℕ) → days < 10_000 → sum < 1_000_000_000 → length (seasonLine code days sum) ≤ 25
+season-line-of-log code days sum few small =
+    omega (arith, season-line-size code days sum, totals-most 3 4 days sum (omega arith) (omega arith))
 
 pub refused-line-size : (number value : ℕ) → length (refusedLine number value) ≡ 8 + length (digits number) + length (field (padded 0 value)) + 1
 unfolding refusedLine

@@ -1,4 +1,4 @@
--- The lines of the report as lists of bytes, by document 01, "Proved days and edges". Assumes nothing.
+-- The lines of the report as lists of bytes, by document 01, "Proved days and edges", and by 02, W4 and W5. Assumes nothing.
 use mathlib.Core.List.{List, [], _∷_, _++_}
 use Prim.Native.Nat.{ℕ, zero, suc, _+_, _-_, _/_, _%_}
 use lib.ListN.{length, replicate}
@@ -64,6 +64,18 @@ dayLine code year d verdict =
 -- the line of a crop's figure: "An answer kind that a request adds prints its fields after the kind in the same way, figures in inches"
 unfoldable pub cropLine : Code → ℕ → List ℕ
 cropLine code n = codeText code ++ field (inches n) ++ newline ∷ []
+
+-- what ends the lines of a month and of a season (02, W5): "days answered, sum", the sum "in inches with four decimals"
+unfoldable pub totals : ℕ → ℕ → List ℕ
+totals days sum = field (digits days) ++ field (inches sum) ++ newline ∷ []
+
+-- the line of a month: "code, year, month in two digits, days answered, sum"
+unfoldable pub monthLine : Code → ℕ → ℕ → ℕ → ℕ → List ℕ
+monthLine code year month days sum = codeText code ++ field (padded 4 year) ++ field (padded 2 month) ++ totals days sum
+
+-- "The season line has the code, the word ALL, the days answered in the whole block and the sum"
+unfoldable pub seasonLine : Code → ℕ → ℕ → List ℕ
+seasonLine code days sum = codeText code ++ field (65 ∷ 76 ∷ 76 ∷ []) ++ totals days sum
 
 -- "A refused log prints only `REFUSED`, the number and the offset or length"
 unfoldable pub refusedLine : ℕ → ℕ → List ℕ

@@ -1,5 +1,5 @@
-// One line in a buffer of its own, and how long it is. Nothing is asked of the caller, since the longest line, a refused log's, has 33 bytes.
-ghost use Rattle.lines.specs.Text.{dayLine, cropLine, refusedLine};
+// One line in a buffer of its own, and how long it is. Nothing is asked of the caller, since the longest line, a month's, has 50 bytes.
+ghost use Rattle.lines.specs.Text.{dayLine, cropLine, monthLine, seasonLine, refusedLine};
 ghost use Rattle.lines.specs.Text.{header as Text·header};
 ghost use Rattle.lines.specs.Written.{AtFront};
 use crate::whole;
@@ -25,6 +25,27 @@ pub fn crop_line(code: Code, n: u32, out: &mut [u8; 64]) -> usize
     ensures { λ r. ⌜ AtFront (now (out .entry)) (cropLine code n) (now (out .exit)) r ⌝ }
 {
     whole::put_crop_line(out, 0, code, n)
+}
+
+// The line of a month's totals.
+pub fn month_line(
+    code: Code,
+    year: u16,
+    month: u16,
+    days: u32,
+    sum: u64,
+    out: &mut [u8; 64],
+) -> usize
+    ensures { λ r. ⌜ AtFront (now (out .entry)) (monthLine code year month days sum) (now (out .exit)) r ⌝ }
+{
+    whole::put_month_line(out, 0, code, year, month, days, sum)
+}
+
+// The line of a season's totals.
+pub fn season_line(code: Code, days: u32, sum: u64, out: &mut [u8; 64]) -> usize
+    ensures { λ r. ⌜ AtFront (now (out .entry)) (seasonLine code days sum) (now (out .exit)) r ⌝ }
+{
+    whole::put_season_line(out, 0, code, days, sum)
 }
 
 // The line of a refused log.

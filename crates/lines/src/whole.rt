@@ -1,7 +1,7 @@
 // Whole lines, laid over a buffer from `at` on, each with its newline.
 ghost use Prim.Native.Nat.{_+_, _≤_};
 ghost use lib.ListN.{length};
-ghost use Rattle.lines.specs.Text.{header, dayLine, cropLine, refusedLine};
+ghost use Rattle.lines.specs.Text.{header, dayLine, cropLine, totals, monthLine, seasonLine, refusedLine};
 ghost use Rattle.lines.specs.Written.{Written};
 use crate::fields::put_byte;
 use crate::fields::put_code;
@@ -48,6 +48,43 @@ pub fn put_crop_line(out: &mut [u8], at: usize, code: Code, n: u32) -> usize
     let code_end = put_code(out, at, code);
     let figure_end = put_inches_field(out, code_end, n as u64);
     put_byte(out, figure_end, b'\n')
+}
+
+// What ends both lines of totals: the days answered and their sum in ten-thousandths of an inch.
+fn put_totals(out: &mut [u8], at: usize, days: u32, sum: u64) -> usize
+    requires { ⌜ at + length (totals days sum) ≤ length (now out) ⌝ }
+    ensures { λ r. ⌜ Written (now (out .entry)) at (totals days sum) (now (out .exit)) r ⌝ }
+{
+    let days_end = put_number_field(out, at, 0, days as u64);
+    let sum_end = put_inches_field(out, days_end, sum);
+    put_byte(out, sum_end, b'\n')
+}
+
+pub fn put_month_line(
+    out: &mut [u8],
+    at: usize,
+    code: Code,
+    year: u16,
+    month: u16,
+    days: u32,
+    sum: u64,
+) -> usize
+    requires { ⌜ at + length (monthLine code year month days sum) ≤ length (now out) ⌝ }
+    ensures { λ r. ⌜ Written (now (out .entry)) at (monthLine code year month days sum) (now (out .exit)) r ⌝ }
+{
+    let code_end = put_code(out, at, code);
+    let year_end = put_number_field(out, code_end, 4, year as u64);
+    let month_end = put_number_field(out, year_end, 2, month as u64);
+    put_totals(out, month_end, days, sum)
+}
+
+pub fn put_season_line(out: &mut [u8], at: usize, code: Code, days: u32, sum: u64) -> usize
+    requires { ⌜ at + length (seasonLine code days sum) ≤ length (now out) ⌝ }
+    ensures { λ r. ⌜ Written (now (out .entry)) at (seasonLine code days sum) (now (out .exit)) r ⌝ }
+{
+    let code_end = put_code(out, at, code);
+    let word_end = put_four(out, code_end, b' ', b'A', b'L', b'L');
+    put_totals(out, word_end, days, sum)
 }
 
 pub fn put_refused_line(out: &mut [u8], at: usize, number: u8, value: usize) -> usize
