@@ -6,8 +6,8 @@ use mathlib.Core.Bool.{Bool, true, false, not, cond}
 use Prim.Native.Nat.{ℕ, _≤_, _%_}
 use native.Mathlib.Nat.{le-trans}
 use native.Mathlib.Omega.{arith}
-use borrow.Author.Tests.{ltb-false}
-use lib.Dec.{T, ltb, leb, leb→le, eqb}
+use borrow.Author.Tests.{ltb-false, leb-true, not-false}
+use lib.Dec.{T, ltb, leb, eqb}
 use lib.IntN.{ℤ, pos}
 use lib.Signed.{ltZ, _≤ℤ_}
 use Rattle.numbers.specs.Ranges.{InRange}
@@ -48,33 +48,40 @@ module _ (st : Station) (day : Day) (earlier : Earlier) (accepted : holds Statio
 
 -- ---- the date
 
-year-length-at-most : (y : ℕ) → yearLength y ≤ 366
+-- a year has 365 days or 366
+pub year-length-in : (y : ℕ) → (365 ≤ yearLength y) × (yearLength y ≤ 366)
 unfolding yearLength
-year-length-at-most y = chosen (eqb (y % 4) 0) (eqb (y % 100) 0) (eqb (y % 400) 0)
+year-length-in y = chosen (eqb (y % 4) 0) (eqb (y % 100) 0) (eqb (y % 400) 0)
   where
-    chosen : (a b c : Bool) → cond a (cond b (cond c 366 365) 366) 365 ≤ 366
+    chosen : (a b c : Bool) → let n : ℕ = cond a (cond b (cond c 366 365) 366) 365 in (365 ≤ n) × (n ≤ 366)
     chosen true true true = omega arith
     chosen true true false = omega arith
     chosen true false c = omega arith
     chosen false b c = omega arith
 
+-- a date's day is one of its year
+pub date-in-year : (year d : ℕ) → isDate year d ≡ true → (1 ≤ d) × (d ≤ yearLength year)
+unfolding isDate
+date-in-year year d e =
+    let p = tests (ltb year 1950) (ltb 2099 year) (ltb d 1) (leb d (yearLength year)) e in
+    (ltb-false d 1 (p .0), leb-true d (yearLength year) (p .1))
+  where
+    tests : (a b c t : Bool) → cond a false (cond b false (cond c false t)) ≡ true → (c ≡ false) × (t ≡ true)
+    tests true b c t e = absurd (subst T (sym e) tt)
+    tests false true c t e = absurd (subst T (sym e) tt)
+    tests false false true t e = absurd (subst T (sym e) tt)
+    tests false false false t e = (refl, e)
+
 module _ (st : Station) (day : Day) (earlier : Earlier) (accepted : holds BadDate st day earlier ≡ false) where
-  day-passed : (ltb (day .d) 1 ≡ false) × T (leb (day .d) (yearLength (day .year)))
-  unfolding holds isDate
-  day-passed = tests (ltb (day .year) 1950) (ltb 2099 (day .year)) (ltb (day .d) 1) (leb (day .d) (yearLength (day .year))) accepted
-    where
-      tests : (a b c d : Bool) → not (cond a false (cond b false (cond c false d))) ≡ false → (c ≡ false) × T d
-      tests true b c d e = absurd (subst T e tt)
-      tests false true c d e = absurd (subst T e tt)
-      tests false false true d e = absurd (subst T e tt)
-      tests false false false true e = (refl, tt)
-      tests false false false false e = absurd (subst T e tt)
+  day-passed : (1 ≤ day .d) × (day .d ≤ yearLength (day .year))
+  unfolding holds
+  day-passed = date-in-year (day .year) (day .d) (not-false (isDate (day .year) (day .d)) accepted)
 
   pub day-low : 1 ≤ day .d
-  day-low = ltb-false (day .d) 1 (day-passed .0)
+  day-low = day-passed .0
 
   pub day-high : day .d ≤ 366
-  day-high = le-trans (leb→le (day .d) (yearLength (day .year)) (day-passed .1)) (year-length-at-most (day .year))
+  day-high = le-trans (day-passed .1) (year-length-in (day .year) .1)
 
 -- ---- the readings and the earlier means
 

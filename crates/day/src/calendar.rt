@@ -8,7 +8,7 @@ pub const FIRST_YEAR: u16 = 1950;
 pub const LAST_YEAR: u16 = 2099;
 
 // The number of days of a year: 366 where 4 divides it, but of the years that 100 divides only those that 400 divides.
-fn year_length(year: u16) -> u16
+pub fn year_length(year: u16) -> u16
     ensures { λ r. ⌜ r ≡ yearLength year ⌝ }
 {
     if year % 4 != 0 {

@@ -1,0 +1,63 @@
+-- The months of the calendar, by document 02, W5. Assumes nothing.
+use mathlib.Core.Bool.{cond}
+use mathlib.Core.List.{List, [], _∷_}
+use Prim.Native.Nat.{ℕ, zero, suc, _+_, _*_, _-_, _/_, _%_, _≤_, _<_}
+use lib.Dec.{ltb, leb}
+use lib.ListN.{getD}
+use Rattle.tables.specs.Values.{first}
+use Rattle.day.specs.Calendar.{firstYear, yearLength}
+
+-- "the days before each month as source document 000 lists them", and behind them the days of the year
+abbrev pub offsets : List ℕ
+offsets = 0 ∷ 31 ∷ 59 ∷ 90 ∷ 120 ∷ 151 ∷ 181 ∷ 212 ∷ 243 ∷ 273 ∷ 304 ∷ 334 ∷ 365 ∷ []
+
+-- one in a leap year, else none
+abbrev pub leapDays : ℕ → ℕ
+leapDays year = yearLength year - 365
+
+-- the days of a year's first i months: "one more from March on in leap years"
+unfoldable pub daysBy : ℕ → ℕ → ℕ
+daysBy year i = getD offsets i 0 + cond (ltb i 2) 0 (leapDays year)
+
+-- the month of day d, 1 for January: the least number of months that together have d days or more. Day 0 gets 0 and a day behind the year 13,
+-- which are no months
+unfoldable pub monthOf : ℕ → ℕ → ℕ
+monthOf year d = first (λ (i : ℕ). leb d (daysBy year i)) 13 0
+
+-- ---- the calendar's own months, by their lengths
+
+-- their lengths, January to December, with so many leap days
+abbrev pub lengths : ℕ → List ℕ
+lengths leap = 31 ∷ (28 + leap) ∷ 31 ∷ 30 ∷ 31 ∷ 30 ∷ 31 ∷ 31 ∷ 30 ∷ 31 ∷ 30 ∷ 31 ∷ []
+
+-- the days of the first i of these months
+unfoldable pub addedUp : ℕ → List ℕ → ℕ
+addedUp zero months = 0
+addedUp (suc i) [] = 0
+addedUp (suc i) (days ∷ months) = days + addedUp i months
+
+abbrev pub daysOfFirst : ℕ → ℕ → ℕ
+daysOfFirst i year = addedUp i (lengths (leapDays year))
+
+-- day d of the year is in its month m
+pub record InMonth (year d m : ℕ) : Type 0 where
+  pub from-january : 1 ≤ m
+  pub to-december : m ≤ 12
+  pub behind : daysOfFirst (m - 1) year < d
+  pub within : d ≤ daysOfFirst m year
+
+-- ---- the months of the calendar in date order, 0 for January 1950
+
+abbrev pub yearAt : ℕ → ℕ
+yearAt k = firstYear + k / 12
+
+abbrev pub monthAt : ℕ → ℕ
+monthAt k = k % 12 + 1
+
+-- so many have the years 1950 to 2099
+abbrev pub months : ℕ
+months = 1800
+
+-- the number of month m of a year
+abbrev pub monthNumber : ℕ → ℕ → ℕ
+monthNumber year m = 12 * (year - firstYear) + (m - 1)
