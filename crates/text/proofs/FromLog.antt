@@ -3,15 +3,16 @@
 use mathlib.Core.Path.{sym, ap, _∙_, subst}
 use mathlib.Core.List.{List, _++_}
 use Prim.Native.Nat.{ℕ, _≤_}
+use native.Mathlib.Nat.{zero-add}
 use lib.Dec.{ltb}
 use lib.ListN.{length, drop}
 use borrow.Author.Tests.{ltb-false}
 use Rattle.answers.specs.Answers.{bytesOf}
 use Rattle.lines.specs.Text.{header}
-use Rattle.log.specs.Log.{longest, answersTo, readingOf, settled, outcomeOf, leaves, bufferAfter, Read}
+use Rattle.log.specs.Log.{longest, longestAnswers, answersTo, readingOf, settled, outcomeOf, leaves, bufferAfter, Read}
 use Rattle.log.specs.declared.Outcome.{Outcome}
 use Rattle.log.specs.declared.Outcome.the-variants.{Written, Refused}
-use Rattle.log.proofs.OutcomeSize.{written-size}
+use Rattle.log.proofs.OutcomeSize.{Small, outcome-small, written-size}
 use Rattle.records.proofs.Choice.{by-cond}
 use Rattle.text.specs.Report.{linesOf, textOf, reportOf, Prints, AreBytes}
 use Rattle.text.specs.Walk.{longestReport, Holds}
@@ -36,11 +37,14 @@ module _ {s buffer after : List ℕ} where
       (subst (ShortLog s) (sym (h .outcome))
       (by-cond (ShortLog s) (ltb longest (length s)) (λ e. tt) (λ e. short-log s (settled (readingOf s) (length buffer)) (ltb-false longest (length s) e))))
 
-  pub answers-held : {n : ℕ} → Read s buffer (Written n) after → Holds after n (answersTo s)
+  pub answers-few : {n : ℕ} → Read s buffer (Written n) after → n ≤ longestAnswers
+  answers-few h = subst Small (sym (h .outcome)) (outcome-small s (length buffer))
+
+  pub answers-held : {n : ℕ} → Read s buffer (Written n) after → Holds after 0 n (answersTo s)
   unfolding bufferAfter
   answers-held {n} h =
       record {
-        size = written-size s (length buffer) (h .outcome);
+        size = zero-add (length (bytesOf (answersTo s))) ∙ sym (written-size s (length buffer) (h .outcome));
         rest = drop n buffer;
         bytes = h .written ∙ ap (λ (o : Outcome). leaves o (bytesOf (answersTo s)) buffer) (sym (h .outcome));
       }

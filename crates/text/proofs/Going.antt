@@ -5,7 +5,6 @@ use mathlib.Core.Path.{_≡_, refl, sym, ap, _∙_, subst}
 use mathlib.Core.Bool.{Bool, true}
 use mathlib.Core.List.{List, [], _∷_, _++_, append-assoc, append-nil}
 use Prim.Native.Nat.{ℕ, _+_, _≤_, _<_}
-use native.Mathlib.Nat.{zero-add}
 use native.Mathlib.Omega.{arith}
 use lib.Dec.{lit≤}
 use lib.ListN.{length, drop, length-append}
@@ -34,17 +33,10 @@ pub record Going (s : List ℕ) (n : ℕ) (writes : Bool) (before : List ℕ) (s
   pub laid : Laid writes before start done text to
 
 module _ {s : List ℕ} {n : ℕ} {writes : Bool} {before : List ℕ} {start : ℕ} where
-  pub none-gone : {print : List Answer → List ℕ} {answers : List Answer} → Holds s n answers → Going s n writes before start before 0 start print (print answers)
+  unfoldable pub none-gone : {from : ℕ} {print : List Answer → List ℕ} {answers : List Answer} → Holds s from n answers
+      → Going s n writes before start before from start print (print answers)
   none-gone {answers = answers} h =
-      record {
-        done = [];
-        left = answers;
-        rest = h .rest;
-        lines = refl;
-        stands = h .bytes;
-        size = zero-add (length (bytesOf answers)) ∙ sym (h .size);
-        laid = laid-none;
-      }
+      record { done = []; left = answers; rest = h .rest; lines = refl; stands = h .bytes; size = h .size; laid = laid-none }
 
   module _ {text : List ℕ} {at to : ℕ} {print : List Answer → List ℕ} {all : List ℕ} (g : Going s n writes before start text at to print all) where
     -- where there is room for all the lines, there is for the next of them
@@ -94,6 +86,9 @@ module _ {s : List ℕ} {n : ℕ} {writes : Bool} {before : List ℕ} {start : �
         same : a ≡ r
         same = sym (is a standing)
 
+        pub stands-as : StandsAt s at r
+        stands-as = subst (StandsAt s at) same standing
+
         pub inside : at + length (answerBytes r) ≤ n
         inside = omega (arith, size-next, ap (λ (b : Answer). length (answerBytes b)) same)
 
@@ -105,20 +100,22 @@ module _ {s : List ℕ} {n : ℕ} {writes : Bool} {before : List ℕ} {start : �
           room buffer fits = part-room buffer line (onward later) lines-next fits
 
           pub one-more : {after : List ℕ} {next : ℕ} → (writes ≡ true → to ≤ length before) → Laid writes text to line after next
-              → Going s n writes before start after (at + length (answerBytes r)) next onward all
-          one-more {after} {next} fits w =
-              record {
-                done = g .done ++ line;
-                left = later;
-                rest = g .rest;
-                lines = lines-next ∙ sym (append-assoc (g .done) line (onward later));
-                stands =
-                    ap (λ (b : Answer). drop (at + length (answerBytes b)) s) (sym same)
-                    ∙ sym (drop-drop (length (answerBytes a)) at s) ∙ ap (drop (length (answerBytes a))) stands-next
-                    ∙ drop-at (answerBytes a) (bytesOf later ++ g .rest) (length (answerBytes a)) refl;
-                size = omega (arith, size-next, ap (λ (b : Answer). length (answerBytes b)) same);
-                laid = then-laid (λ e. omega (arith, fits e, g .laid .behind)) (g .laid) w;
-              }
+              → (more : Going s n writes before start after (at + length (answerBytes r)) next onward all) × (g .left ≡ r ∷ more .left)
+          one-more {after} {next} fits w = (
+            record {
+              done = g .done ++ line;
+              left = later;
+              rest = g .rest;
+              lines = lines-next ∙ sym (append-assoc (g .done) line (onward later));
+              stands =
+                  ap (λ (b : Answer). drop (at + length (answerBytes b)) s) (sym same)
+                  ∙ sym (drop-drop (length (answerBytes a)) at s) ∙ ap (drop (length (answerBytes a))) stands-next
+                  ∙ drop-at (answerBytes a) (bytesOf later ++ g .rest) (length (answerBytes a)) refl;
+              size = omega (arith, size-next, ap (λ (b : Answer). length (answerBytes b)) same);
+              laid = then-laid (λ e. omega (arith, fits e, g .laid .behind)) (g .laid) w;
+            },
+            there h .is ∙ ap (λ (b : Answer). b ∷ later) same,
+          )
 
     -- no answer is left: with what is printed then, all the lines are laid
     module _ (h : n ≤ at) where

@@ -2,7 +2,11 @@
 pub mod Laid
 pub mod Blocks
 pub mod Going
+pub mod Walked
+pub mod InTurn
 pub mod Prints
 pub mod FromLog
+pub mod DateOrder
+pub mod Sizes
 pub mod LongEnough
 pub mod WorkedReport

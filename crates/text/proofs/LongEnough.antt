@@ -5,11 +5,10 @@ use mathlib.Core.Bool.{true, false, not}
 use mathlib.Core.List.{List, [], _∷_, _++_}
 use Prim.Native.Nat.{ℕ, _+_, _*_, _≤_, _<_}
 use native.Mathlib.Omega.{arith}
-use lib.Dec.{ltb, lit≤}
+use lib.Dec.{ltb}
 use lib.ListN.{length, length-append}
 use borrow.Author.Tests.{ltb-false}
 use Rattle.answers.specs.declared.Answer.{Answer}
-use Rattle.answers.specs.declared.Answer.the-variants as answer
 use Rattle.crops.specs.Crop.{badCrop, inSeason, cropFigure}
 use Rattle.crops.specs.declared.Crop.{Crop}
 use Rattle.crops.proofs.CropFigure.{twice-most}
@@ -28,7 +27,7 @@ use Rattle.day.proofs.Passed.{day-high}
 use Rattle.records.specs.Bytes.{wordAt}
 use Rattle.records.specs.Record.{dayAt}
 use Rattle.records.proofs.Choice.{by-cond}
-use Rattle.answers.specs.Answers.{dayAnswer, bytesOf}
+use Rattle.answers.specs.Answers.{bytesOf}
 use Rattle.log.specs.History.{goodDate, earlierMeans, verdictOf}
 use Rattle.log.specs.Log.{Planted, bare, planted, Entry, station, day, crop, cropAnswer, cropAnswers, longest, longestAnswers, answersTo, answersOf, readingOf, entriesOf, outcomeOf, settled}
 use Rattle.log.specs.declared.Outcome.{Outcome}
@@ -36,16 +35,15 @@ use Rattle.log.specs.declared.Outcome.the-variants as outcome
 use Rattle.log.proofs.Calendar.{date-tells}
 use Rattle.log.proofs.Carried.{PlantedSound}
 use Rattle.log.proofs.Days.{good-date}
-use Rattle.log.proofs.Counted.{daysOf, figuresOf}
+use Rattle.log.proofs.Counted.{stationsOf, daysOf, figuresOf}
 use Rattle.log.proofs.Longest.{answers-most, lines-room}
 use Rattle.log.proofs.OutcomeSize.{Small, outcome-small, outcome-alike}
 use Rattle.log.proofs.Stations.{Sound, SoundEntries, sound-reading, station-constants}
 use Rattle.text.specs.Report.{linesOf, textOf, reportOf, wholeReport, AreBytes, LongEnough}
-use Rattle.text.specs.Walk.{longestReport, printed, linesFrom}
-use Rattle.text.proofs.Blocks.{prints-size}
+use Rattle.text.specs.Walk.{longestReport}
+use Rattle.text.proofs.DateOrder.{answers-ordered}
+use Rattle.text.proofs.Sizes.{daysIn, weight, AllSmall, lines-most}
 use Rattle.lines.specs.Text.{header, verdictText, dayLine, cropLine}
-use Rattle.text.specs.declared.walk.Open.{Open}
-use Rattle.text.specs.declared.walk.Open.the-variants.{NoBlock, In}
 use Rattle.lines.proofs.Digits.{padded-most, inches-most}
 use Rattle.lines.proofs.Lengths.{refusal-most, estimate-size, day-line-size, crop-line-size, refused-line-most}
 
@@ -109,65 +107,69 @@ module _ (s : List ℕ) (bytes : AreBytes s) where
       let twice : m ≤ 160_000 = omega (arith, twice-most c good (y .d) n) in
       omega (arith, crop-line-size (c .code) m, inches-most 1 m (omega arith))
 
-  module _ (block : Open) (rest : List Answer) where
-    -- the lines of some answers of a crop, before the rest
-    abbrev Few : List Answer → Type 0
-    Few l = length (linesFrom block (l ++ rest)) ≤ 13 * length l + length (linesFrom block rest)
+  -- ---- the answers
 
-    one-few : (code : Code) (n : ℕ) → length (cropLine code n) ≤ 13 → Few (answer.Crop code n ∷ [])
-    one-few code n short = omega (arith, prints-size block (answer.Crop code n) rest, by block)
-      where
-        by : (b : Open) → length (printed b (answer.Crop code n)) ≤ 13
-        by NoBlock = lit≤ tt
-        by (In kept) = short
+  crop-small : (c : Crop) (y : Day) → badCrop c ≡ false → {n : ℕ} → n ≤ mostFigure → AllSmall (cropAnswer c y n)
+  crop-small c y sound {n} small = by-cond AllSmall (inSeason c (y .year) (y .d)) (λ e. (crop-most c y sound small, tt)) (λ e. tt)
 
-    crop-few : (c : Crop) (y : Day) → badCrop c ≡ false → {n : ℕ} → n ≤ mostFigure → Few (cropAnswer c y n)
-    crop-few c y sound {n} small =
-        by-cond Few (inSeason c (y .year) (y .d)) (λ e. one-few (c .code) (cropFigure c (y .d) n) (crop-most c y sound small)) (λ e. omega arith)
+  crops-small : (pl : Planted) (y : Day) (v : Verdict) → PlantedSound pl → FigureAtMost mostFigure v → AllSmall (cropAnswers pl y v)
+  crops-small bare y v sound small = tt
+  crops-small (planted c) y (Refused r) sound small = tt
+  crops-small (planted c) y (Figure n) sound small = crop-small c y sound small
+  crops-small (planted c) y (Estimated n) sound small = crop-small c y sound small
 
-    crops-most : (pl : Planted) (y : Day) (v : Verdict) → PlantedSound pl → FigureAtMost mostFigure v → Few (cropAnswers pl y v)
-    crops-most bare y v sound small = omega arith
-    crops-most (planted c) y (Refused r) sound small = omega arith
-    crops-most (planted c) y (Figure n) sound small = crop-few c y sound small
-    crops-most (planted c) y (Estimated n) sound small = crop-few c y sound small
+  both-small : (l rest : List Answer) → AllSmall l → AllSmall rest → AllSmall (l ++ rest)
+  both-small [] rest h g = g
+  both-small (a ∷ l) rest h g = (h .0, both-small l rest (h .1) g)
+
+  all-small : (es : List Entry) → SoundEntries s es → AllSmall (answersOf es)
+  all-small [] f = tt
+  all-small (station x ∷ es) f = (tt, all-small es (f .1))
+  all-small (crop b c ∷ es) f = all-small es (f .1)
+  all-small (day b y ∷ es) f =
+      let v = verdictOf (b .station) (b .days) y in
+      let small = figure-small (b .station) (b .days) y (f .0 .0 .0) in (
+        (λ code. line-most code (b .station) (b .days) y (f .0 .0 .0) (f .0 .1), small),
+        both-small (cropAnswers (b .crop) y v) (answersOf es) (crops-small (b .crop) y v (f .0 .0 .1) small) (all-small es (f .1)),
+      )
+
+  -- by the records
+  module _ (rest : List Answer) where
+    abbrev Counts : List Answer → Type 0
+    Counts l = (daysIn (l ++ rest) ≡ daysIn rest) × (weight (l ++ rest) ≡ 13 * length l + weight rest)
+
+    crop-counts : (c : Crop) (y : Day) (n : ℕ) → Counts (cropAnswer c y n)
+    crop-counts c y n = by-cond Counts (inSeason c (y .year) (y .d)) (λ e. (refl, refl)) (λ e. (refl, omega arith))
+
+    crops-count : (pl : Planted) (y : Day) (v : Verdict) → Counts (cropAnswers pl y v)
+    crops-count bare y v = (refl, omega arith)
+    crops-count (planted c) y (Refused r) = (refl, omega arith)
+    crops-count (planted c) y (Figure n) = crop-counts c y n
+    crops-count (planted c) y (Estimated n) = crop-counts c y n
+
+  all-counts : (es : List Entry) → (daysIn (answersOf es) ≡ daysOf es) × (weight (answersOf es) ≡ 45 * daysOf es + 13 * figuresOf es + 25 * stationsOf es)
+  all-counts [] = (refl, refl)
+  all-counts (station x ∷ es) = (all-counts es .0, omega (arith, all-counts es .1))
+  all-counts (crop b c ∷ es) = all-counts es
+  all-counts (day b y ∷ es) =
+      let crops = crops-count (answersOf es) (b .crop) y (verdictOf (b .station) (b .days) y) in
+      (omega (arith, all-counts es .0, crops .0), omega (arith, all-counts es .1, crops .1))
 
   -- ---- the report
-
-  lines-most : (es : List Entry) → SoundEntries s es → (block : Open) → length (linesFrom block (answersOf es)) ≤ 23 * daysOf es + 13 * figuresOf es
-  lines-most [] f NoBlock = omega arith
-  lines-most [] f (In code) = omega arith
-  lines-most (station x ∷ es) f block = omega (arith, prints-size block (answer.Station (x .code)) (answersOf es), lines-most es (f .1) (In (x .code)), by block)
-    where
-      by : (b : Open) → length (printed b (answer.Station (x .code))) ≡ 0
-      by NoBlock = refl
-      by (In code) = refl
-  lines-most (crop b c ∷ es) f block = lines-most es (f .1) block
-  lines-most (day b y ∷ es) f block =
-      omega (
-        arith,
-        lines-most es (f .1) block,
-        prints-size block (dayAnswer y v) (cropAnswers (b .crop) y v ++ answersOf es),
-        by block,
-        crops-most block (answersOf es) (b .crop) y v (f .0 .0 .1) (figure-small (b .station) (b .days) y (f .0 .0 .0)),
-      )
-    where
-      v : Verdict
-      v = verdictOf (b .station) (b .days) y
-
-      by : (o : Open) → length (printed o (dayAnswer y v)) ≤ 23
-      by NoBlock = lit≤ tt
-      by (In code) = line-most code (b .station) (b .days) y (f .0 .0 .0) (f .0 .1)
 
   abbrev Short : Outcome → Type 0
   Short o = length (textOf o (answersTo s)) ≤ longestReport
 
   pub text-most : length s ≤ longest → length (header ++ linesOf (answersTo s)) ≤ longestReport
   text-most short =
+      let es = entriesOf (readingOf s) in
+      let room = lines-room s short in
       omega (
         arith,
         length-append header (linesOf (answersTo s)),
-        lines-most (entriesOf (readingOf s)) (sound-reading s) NoBlock,
-        lines-room s short,
+        lines-most (answersTo s) (all-small es (sound-reading s)) (answers-ordered s) (omega (arith, all-counts es .0, room .1)),
+        all-counts es .1,
+        room .0,
       )
 
   refused-short : (number value : ℕ) → Small (outcome.Refused number value) → Short (outcome.Refused number value)

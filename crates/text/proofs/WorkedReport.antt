@@ -1,7 +1,7 @@
--- Reports worked out from the log's bytes to the last newline: document 01's, with its four lines; the same log cut off; the same with an answer
+-- Reports worked out from the log's bytes to the last newline: document 01's, with its four lines and the two of its totals; the same log cut off; the same with an answer
 -- buffer that is one byte too short; that of a log of 0 bytes; that of a log with a crop; and that of a log with a day without its
 -- dew point. Assumes nothing.
-use mathlib.Core.Path.{_≡_, refl}
+use mathlib.Core.Path.{_≡_, refl, ap, _∙_, subst}
 use mathlib.Core.List.{List, [], _∷_, _++_}
 use mathlib.Core.Bool.{cond}
 use Prim.Native.Nat.{ℕ}
@@ -12,7 +12,10 @@ use Rattle.answers.specs.declared.Answer.{Answer}
 use Rattle.crops.specs.Crop.{badCrop}
 use Rattle.records.specs.Bytes.{wordAt, signedOf, signedAt}
 use Rattle.records.specs.Record.{stationAt, dayAt, cropAt, recordAt}
-use Rattle.log.specs.Log.{readFrom, readingOf, outcomeOf}
+use Rattle.day.specs.Calendar.{yearLength}
+use Rattle.tables.specs.Values.{first}
+use Rattle.totals.specs.Months.{daysBy, monthOf}
+use Rattle.log.specs.Log.{answersTo, readFrom, readingOf, outcomeOf}
 use Rattle.log.proofs.Sample.{sample}
 use Rattle.log.specs.declared.Outcome.the-variants as outcome
 use Rattle.log.proofs.WorkedLog.{worked}
@@ -21,17 +24,26 @@ use Rattle.log.proofs.WorkedCrop.{worked as crop-worked}
 use Rattle.log.proofs.WorkedEstimate.{estimateLog}
 use Rattle.log.proofs.WorkedEstimate.{worked as estimate-worked}
 use Rattle.text.specs.Report.{linesOf, textOf, reportOf, wholeReport}
-use Rattle.lines.specs.Text.{newline, leading, digits, padded, inches, verdictText, header, dayLine, cropLine, refusedLine}
+use Rattle.text.specs.Walk.{Ordered}
+use Rattle.text.proofs.DateOrder.{answers-ordered}
+use Rattle.text.proofs.InTurn.{linesInTurn, lines-in-turn}
+use Rattle.lines.specs.Text.{totals, monthLine, seasonLine, newline, leading, digits, padded, inches, verdictText, header, dayLine, cropLine, refusedLine}
 
--- `STN YEAR DAY ET`, `LIDW 2008 010 R7`, `LIDW 2008 011 R7`, `LIDW 2008 012 0.0000`
+-- the months of a log's answers are in date order
+in-turn : (s : List ℕ) {answers : List Answer} → answersTo s ≡ answers → header ++ linesOf answers ≡ header ++ linesInTurn answers
+in-turn s {answers} e = ap (λ (l : List ℕ). header ++ l) (lines-in-turn answers (subst Ordered e (answers-ordered s)))
+
+-- `STN YEAR DAY ET`, `LIDW 2008 010 R7`, `LIDW 2008 011 R7`, `LIDW 2008 012 0.0000`, `LIDW 2008 01 1 0.0000`, `LIDW ALL 1 0.0000`
 pub report : wholeReport sample ≡
     83 ∷ 84 ∷ 78 ∷ 32 ∷ 89 ∷ 69 ∷ 65 ∷ 82 ∷ 32 ∷ 68 ∷ 65 ∷ 89 ∷ 32 ∷ 69 ∷ 84 ∷ newline
     ∷ 76 ∷ 73 ∷ 68 ∷ 87 ∷ 32 ∷ 50 ∷ 48 ∷ 48 ∷ 56 ∷ 32 ∷ 48 ∷ 49 ∷ 48 ∷ 32 ∷ 82 ∷ 55 ∷ newline
     ∷ 76 ∷ 73 ∷ 68 ∷ 87 ∷ 32 ∷ 50 ∷ 48 ∷ 48 ∷ 56 ∷ 32 ∷ 48 ∷ 49 ∷ 49 ∷ 32 ∷ 82 ∷ 55 ∷ newline
     ∷ 76 ∷ 73 ∷ 68 ∷ 87 ∷ 32 ∷ 50 ∷ 48 ∷ 48 ∷ 56 ∷ 32 ∷ 48 ∷ 49 ∷ 50 ∷ 32 ∷ 48 ∷ 46 ∷ 48 ∷ 48 ∷ 48 ∷ 48 ∷ newline
+    ∷ 76 ∷ 73 ∷ 68 ∷ 87 ∷ 32 ∷ 50 ∷ 48 ∷ 48 ∷ 56 ∷ 32 ∷ 48 ∷ 49 ∷ 32 ∷ 49 ∷ 32 ∷ 48 ∷ 46 ∷ 48 ∷ 48 ∷ 48 ∷ 48 ∷ newline
+    ∷ 76 ∷ 73 ∷ 68 ∷ 87 ∷ 32 ∷ 65 ∷ 76 ∷ 76 ∷ 32 ∷ 49 ∷ 32 ∷ 48 ∷ 46 ∷ 48 ∷ 48 ∷ 48 ∷ 48 ∷ newline
     ∷ []
-unfolding wholeReport reportOf outcomeOf readingOf readFrom recordAt stationAt dayAt wordAt signedOf signedAt dayLine padded verdictText inches digits leading
-report = λ i. header ++ linesOf (worked i)
+unfolding wholeReport reportOf outcomeOf readingOf readFrom recordAt stationAt dayAt wordAt signedOf signedAt dayLine padded verdictText inches digits leading monthLine seasonLine totals monthOf first daysBy yearLength
+report = (λ i. header ++ linesOf (worked i)) ∙ in-turn sample worked
 
 -- cut off within day 12, whose kind byte is at 53: `REFUSED 2 53`
 pub cut-off : wholeReport (take 69 sample) ≡ 82 ∷ 69 ∷ 70 ∷ 85 ∷ 83 ∷ 69 ∷ 68 ∷ 32 ∷ 50 ∷ 32 ∷ 53 ∷ 51 ∷ newline ∷ []
@@ -55,6 +67,13 @@ lidw d says = 76 ∷ 73 ∷ 68 ∷ 87 ∷ 32 ∷ 50 ∷ 48 ∷ 48 ∷ 56 ∷ 32 
 abbrev missing : List ℕ
 missing = 82 ∷ 55 ∷ []
 
+-- the line of a month of LIDW in 2008, with the days answered and their sum, and the season line
+abbrev lidwMonth : List ℕ → List ℕ → List ℕ → List ℕ
+lidwMonth month days sum = lidw month (days ++ 32 ∷ sum)
+
+abbrev lidwSeason : List ℕ → List ℕ → List ℕ
+lidwSeason days sum = 76 ∷ 73 ∷ 68 ∷ 87 ∷ 32 ∷ 65 ∷ 76 ∷ 76 ∷ 32 ∷ (days ++ 32 ∷ (sum ++ newline ∷ []))
+
 -- the report of some answers, in a buffer of the length that they need
 abbrev told : List Answer → List ℕ
 told answers = let n = length (bytesOf answers) in textOf (cond (ltb n n) (outcome.Refused 12 n) (outcome.Written n)) answers
@@ -66,12 +85,16 @@ pub with-crop : wholeReport cropLog ≡
     ++ lidw (49 ∷ 55 ∷ 57 ∷ []) missing
     ++ lidw (49 ∷ 56 ∷ 48 ∷ []) (48 ∷ 46 ∷ 51 ∷ 53 ∷ 49 ∷ 56 ∷ [])
     ++ (66 ∷ 69 ∷ 65 ∷ 78 ∷ 32 ∷ 48 ∷ 46 ∷ 49 ∷ 51 ∷ 49 ∷ 57 ∷ newline ∷ [])
+    ++ lidwMonth (48 ∷ 54 ∷ []) (49 ∷ []) (48 ∷ 46 ∷ 51 ∷ 53 ∷ 49 ∷ 56 ∷ [])
+    ++ lidwSeason (49 ∷ []) (48 ∷ 46 ∷ 51 ∷ 53 ∷ 49 ∷ 56 ∷ [])
     ++ lidw (49 ∷ 55 ∷ 55 ∷ []) missing
     ++ lidw (49 ∷ 55 ∷ 56 ∷ []) missing
     ++ lidw (49 ∷ 55 ∷ 57 ∷ []) missing
     ++ lidw (49 ∷ 56 ∷ 48 ∷ []) (48 ∷ 46 ∷ 51 ∷ 51 ∷ 53 ∷ 54 ∷ [])
-unfolding wholeReport reportOf outcomeOf readingOf readFrom recordAt stationAt dayAt cropAt wordAt signedOf signedAt badCrop dayLine cropLine padded verdictText inches digits leading
-with-crop = λ i. told (crop-worked i)
+    ++ lidwMonth (48 ∷ 54 ∷ []) (49 ∷ []) (48 ∷ 46 ∷ 51 ∷ 51 ∷ 53 ∷ 54 ∷ [])
+    ++ lidwSeason (49 ∷ []) (48 ∷ 46 ∷ 51 ∷ 51 ∷ 53 ∷ 54 ∷ [])
+unfolding wholeReport reportOf outcomeOf readingOf readFrom recordAt stationAt dayAt cropAt wordAt signedOf signedAt badCrop dayLine cropLine padded verdictText inches digits leading monthLine seasonLine totals monthOf first daysBy yearLength
+with-crop = (λ i. told (crop-worked i)) ∙ in-turn cropLog crop-worked
 
 -- `LIDW 2008 178 R7`, `LIDW 2008 179 R7`, `LIDW 2008 180 0.3347 E`, `BEAN 0.1255`, `LIDW 2008 181 R7`, and document 01's
 pub with-estimate : wholeReport estimateLog ≡
@@ -81,8 +104,12 @@ pub with-estimate : wholeReport estimateLog ≡
     ++ lidw (49 ∷ 56 ∷ 48 ∷ []) (48 ∷ 46 ∷ 51 ∷ 51 ∷ 52 ∷ 55 ∷ 32 ∷ 69 ∷ [])
     ++ (66 ∷ 69 ∷ 65 ∷ 78 ∷ 32 ∷ 48 ∷ 46 ∷ 49 ∷ 50 ∷ 53 ∷ 53 ∷ newline ∷ [])
     ++ lidw (49 ∷ 56 ∷ 49 ∷ []) missing
+    ++ lidwMonth (48 ∷ 54 ∷ []) (49 ∷ []) (48 ∷ 46 ∷ 51 ∷ 51 ∷ 52 ∷ 55 ∷ [])
+    ++ lidwSeason (49 ∷ []) (48 ∷ 46 ∷ 51 ∷ 51 ∷ 52 ∷ 55 ∷ [])
     ++ lidw (48 ∷ 49 ∷ 48 ∷ []) missing
     ++ lidw (48 ∷ 49 ∷ 49 ∷ []) missing
     ++ lidw (48 ∷ 49 ∷ 50 ∷ []) (48 ∷ 46 ∷ 48 ∷ 48 ∷ 48 ∷ 48 ∷ [])
-unfolding wholeReport reportOf outcomeOf readingOf readFrom recordAt stationAt dayAt cropAt wordAt signedOf signedAt badCrop dayLine cropLine padded verdictText inches digits leading
-with-estimate = λ i. told (estimate-worked i)
+    ++ lidwMonth (48 ∷ 49 ∷ []) (49 ∷ []) (48 ∷ 46 ∷ 48 ∷ 48 ∷ 48 ∷ 48 ∷ [])
+    ++ lidwSeason (49 ∷ []) (48 ∷ 46 ∷ 48 ∷ 48 ∷ 48 ∷ 48 ∷ [])
+unfolding wholeReport reportOf outcomeOf readingOf readFrom recordAt stationAt dayAt cropAt wordAt signedOf signedAt badCrop dayLine cropLine padded verdictText inches digits leading monthLine seasonLine totals monthOf first daysBy yearLength
+with-estimate = (λ i. told (estimate-worked i)) ∙ in-turn estimateLog estimate-worked

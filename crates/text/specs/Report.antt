@@ -4,7 +4,7 @@ use mathlib.Core.Bool.{cond}
 use mathlib.Core.List.{List, [], _∷_, _++_}
 use mathlib.Core.Path.{_≡_}
 use Prim.Native.Nat.{ℕ, _≤_, _<_}
-use lib.Dec.{ltb}
+use lib.Dec.{ltb, eqb}
 use lib.ListN.{length, drop, getD}
 use Rattle.answers.specs.Answers.{bytesOf}
 use Rattle.day.specs.declared.Code.{Code}
@@ -13,7 +13,10 @@ use Rattle.answers.specs.declared.Answer.{Answer}
 use Rattle.answers.specs.declared.Answer.the-variants as answer
 use Rattle.log.specs.declared.Outcome.{Outcome}
 use Rattle.log.specs.declared.Outcome.the-variants as outcome
-use Rattle.lines.specs.Text.{header, dayLine, cropLine, refusedLine}
+use Rattle.lines.specs.Text.{header, dayLine, cropLine, monthLine, seasonLine, refusedLine}
+use Rattle.totals.specs.Months.{months}
+use Rattle.totals.specs.Totals.{monthTotal, seasonTotal, eachMonth}
+use Rattle.totals.specs.declared.tally.Total.{Total}
 use Rattle.text.specs.declared.Printed.{Printed}
 use Rattle.text.specs.declared.Printed.the-variants.{Written, Needs}
 
@@ -29,9 +32,16 @@ abbrev pub answerLines : Code → List Answer → List ℕ
 answerLines block [] = []
 answerLines block (a ∷ rest) = lineOf block a ++ answerLines block rest
 
--- "lines about a whole block follow all its answers": there are none yet
+-- "a line for each month that had an answered day" (02, W5)
+abbrev pub monthText : Code → ℕ → ℕ → Total → List ℕ
+monthText block year month total = cond (eqb (total .days) 0) [] (monthLine block year month (total .days) (total .sum))
+
+abbrev pub seasonText : Code → Total → List ℕ
+seasonText block total = seasonLine block (total .days) (total .sum)
+
+-- "lines about a whole block follow all its answers": the months in date order, "and then a season line" (02, W5)
 abbrev pub aboutBlock : Code → List Answer → List ℕ
-aboutBlock block answers = []
+aboutBlock block answers = eachMonth (monthText block) (monthTotal answers) months ++ seasonText block (seasonTotal answers)
 
 -- the answers of the block that is open: those before the next station
 abbrev pub own : List Answer → List Answer

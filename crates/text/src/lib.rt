@@ -5,16 +5,17 @@ ghost use Prim.Native.Nat.{_≤_};
 ghost use lib.ListN.{length};
 ghost use Rattle.log.specs.CropFigures.{CropFiguresOwed};
 ghost use Rattle.log.specs.Demand.{FiguresOwed};
-ghost use Rattle.log.specs.Log.{bufferAfter};
+ghost use Rattle.log.specs.Log.{longestAnswers, bufferAfter};
 ghost use Rattle.answers.specs.declared.Answer.{Answer as Answered};
 ghost use Rattle.text.specs.Report.{linesOf, reportOf, wholeReport, Prints};
 ghost use Rattle.lines.specs.Text.{header as Text·header};
 ghost use Rattle.lines.specs.Text.{refusedLine};
-ghost use Rattle.text.specs.Walk.{longestReport, Holds};
+ghost use Rattle.text.specs.Walk.{longestReport, Holds, Ordered};
 ghost use Rattle.lines.specs.Written.{AtFront};
 use log::Outcome;
 use log::read_log;
 
+mod season;
 mod walk;
 
 // The length of the text written, or the length that a text buffer needs.
@@ -24,10 +25,10 @@ pub enum Printed {
 }
 
 // No log has longer answers, and none a longer report, than one station, one crop and 3,852 answered days with a crop figure each would have, all of
-// them without their dew point.
+// them without their dew point and each in a month of its own.
 pub const LONGEST_ANSWERS: usize = 69_341;
 
-pub const LONGEST_REPORT: usize = 138_688;
+pub const LONGEST_REPORT: usize = 223_457;
 
 // A refused log's line.
 fn print_refused(number: u8, value: usize, text: &mut [u8]) -> Printed
@@ -43,8 +44,9 @@ fn print_refused(number: u8, value: usize, text: &mut [u8]) -> Printed
 
 // The header and the lines of the answers that the first n bytes hold. They are counted first, so that a text buffer that is too short is left as it was.
 fn print_answers(answers: &[u8], n: usize, text: &mut [u8]) -> Printed
-    requires { ⌜ ((all : List Answered) × Holds (now answers) n all × (length (Text·header ++ linesOf all) ≤ longestReport)) ⌝ }
-    ensures { λ r. ⌜ ((all : List Answered) → Holds (now (answers .entry)) n all → Prints (Text·header ++ linesOf all) (now (text .entry)) r (now (text .exit))) ⌝ }
+    requires { ⌜ n ≤ longestAnswers ⌝ }
+    requires { ⌜ ((all : List Answered) × Holds (now answers) 0 n all × Ordered all × (length (Text·header ++ linesOf all) ≤ longestReport)) ⌝ }
+    ensures { λ r. ⌜ ((all : List Answered) → Holds (now (answers .entry)) 0 n all → Ordered all → Prints (Text·header ++ linesOf all) (now (text .entry)) r (now (text .exit))) ⌝ }
 {
     let mut line = [0u8; 64];
     let above = lines::single::header(&mut line);

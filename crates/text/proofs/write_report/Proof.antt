@@ -6,7 +6,8 @@ use borrow.Author.Needs.{needs}
 use Rattle.log.specs.Log.{answersTo, Read}
 use Rattle.log.specs.declared.Outcome.{Outcome}
 use Rattle.text.specs.Report.{AreBytes}
-use Rattle.text.proofs.FromLog.{lines-short, answers-held, report-text}
+use Rattle.text.proofs.DateOrder.{answers-ordered}
+use Rattle.text.proofs.FromLog.{answers-few, lines-short, answers-held, report-text}
 use Rattle.text.proofs.write_report.Statement.{statement}
 use Rattle.text.proofs.write_report.Tie as tie
 
@@ -28,7 +29,7 @@ print-answers-requires c κs =
     let n = c .before .before .before in
     let log = n .before .before .before .before in
     let h = read log (n .n .given .1) in
-    (answersTo _, answers-held h, lines-short (bytes log) h)
+    (answers-few h, (answersTo _, answers-held h, answers-ordered _, lines-short (bytes log) h))
 
 returns : tie.Need-returns
 returns c =
@@ -43,7 +44,7 @@ returns-2 c =
     let told = call .before .before .before .before in
     let log = told .before .before .before .before in
     let h = read log (told .n .given .1) in
-    (report-text h (call .print-answers .ensures _ (answers-held h)), (log .read-log .ensures .0 .written, log .read-log .ensures .1))
+    (report-text h (call .print-answers .ensures _ (answers-held h) (answers-ordered _)), (log .read-log .ensures .0 .written, log .read-log .ensures .1))
 
 pub write-report-spec : {M : Type 1} → statement M
 write-report-spec =
