@@ -353,12 +353,17 @@ impl Log {
         if outcome != Outcome::Written(answers.len()) || answers != self.expected {
             return Err(format!("log of {} bytes: {outcome:?}", self.bytes.len()));
         }
-        // The header, and 21 bytes for each day with a figure; a refused day has fewer.
-        if self.report.len() != 16 + 21 * self.cases.len() {
+        if answers_of_kind(3, &self.expected) != self.cases.len() {
             return Err("a day of a timed log has no figure".into());
         }
         check_report(&self.bytes)
     }
+}
+
+/// How many of the answers to one station, after its own of five bytes, are of a kind; each has nine.
+fn answers_of_kind(kind: u8, answers: &[u8]) -> usize {
+    let kinds = answers[5..].iter().step_by(9);
+    kinds.filter(|of_answer| **of_answer == kind).count()
 }
 
 /// The answers and the report of a log are those of the second implementation.
@@ -423,8 +428,8 @@ impl CropLogs {
     }
 
     fn check(&self) -> Result<(), String> {
-        // The header, and for each day 21 bytes with its figure and 12 with the crop's.
-        if second::report(&self.with).len() != 16 + (21 + 12) * self.days {
+        let answers = log::answer_bytes(&self.with).expect("a log without a fault");
+        if answers_of_kind(7, &answers) != self.days {
             return Err("a day of a timed log has no crop figure".into());
         }
         check_report(&self.with).and_then(|()| check_report(&self.without))
