@@ -7,6 +7,8 @@ LIDW = (b"LIDW", (154, 1760, 614, -396, 590), 100, 497)
 HIGH = (b"HIGH", (180, 1900, 600, -390, 580), 120, 1850)
 # Little water while the plants are small, most where they cover the ground, and less as they dry.
 BEAN = (b"BEAN", 2008, 140, 260, (20, 22, 30, 45, 65, 90, 105, 107, 95, 60, 30))
+# Winter wheat, from where it grows again to where it is ripe.
+WHEAT = (b"WHEA", 2008, 59, 199, (30, 35, 45, 60, 80, 100, 105, 105, 95, 60, 25))
 
 
 def station(code, constants, minimum, elevation):
@@ -64,3 +66,22 @@ partly = season(2008, 139, 144, 0, no_dew_point=(139, 141, 142, 144))
 windless = day(2008, 145, 774, 456, 615, MISSING, 5200, MISSING)
 disordered = day(2008, 146, 774, 616, 615, MISSING, 5200, 700)
 write("no_dew_point.log", station(*LIDW), crop(*BEAN), *partly, windless, disordered, *season(2008, 147, 147, 0))
+
+# Four months of a winter, over a year's end and with 29 February: on 3 January the wind is missing, on 29 February the dew point
+# alone, and the wheat's start is 28 February. Of the second station's two days none is answered.
+winter = [
+    day(2007, 362, 352, 241, 297, 238, 850, 760),
+    day(2007, 363, 381, 276, 329, 262, 620, 1140),
+    day(2007, 364, 364, 252, 308, 240, 930, 880),
+    day(2007, 365, 338, 215, 277, 201, 1120, 540),
+    day(2008, 1, 329, 198, 264, 190, 1180, 480),
+    day(2008, 2, 347, 226, 287, 214, 960, 690),
+    day(2008, 3, 402, 281, 342, 270, 540, MISSING),
+    day(2008, 58, 486, 301, 394, 292, 2650, 820),
+    day(2008, 59, 512, 318, 415, 297, 2890, 940),
+    day(2008, 60, 495, 335, 415, MISSING, 2140, 1260),
+    day(2008, 61, 468, 306, 387, 301, 1870, 1310),
+    day(2008, 62, 503, 289, 396, 270, 3180, 730),
+]
+no_temperatures = [day(2008, d, *[MISSING] * 4, 2400, 900) for d in (59, 60)]
+write("months.log", station(*LIDW), crop(*WHEAT), *winter, station(*HIGH), *no_temperatures)

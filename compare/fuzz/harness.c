@@ -26,9 +26,9 @@ enum {
     LOG_ROOM = LONGEST_LOG + 2 * PAGE,
     ANSWER_ROOM = 32 * PAGE,
     /* No report is longer. */
-    REPORT_LIMIT = 138688,
+    REPORT_LIMIT = 223457,
     /* Room for every report, and for some bytes more. */
-    TEXT_ROOM = 35 * PAGE,
+    TEXT_ROOM = 56 * PAGE,
     STATION_LENGTH = 19,
     LIMITED_STATION_LENGTH = 21,
     DAY_LENGTH = 17,
@@ -274,29 +274,146 @@ static uint64_t run(const uint8_t *log, size_t log_length, struct buffer answers
     return returned;
 }
 
-/* The text is the line of a refused log, or the header and a line for each answer but a station's; those of kind 9 end in a
- * space and an E. */
+/* The text that a report should have, as far as it is built. */
+static struct {
+    uint8_t bytes[TEXT_ROOM];
+    size_t length;
+} built;
+
+static void put(const void *bytes, size_t length) {
+    require(length <= TEXT_ROOM - built.length, "a report has no more than its limit");
+    memcpy(built.bytes + built.length, bytes, length);
+    built.length += length;
+}
+
+static void put_text(const char *text) { put(text, strlen(text)); }
+
+/* With at least so many digits. */
+static void put_number(uint64_t whole, size_t digits) {
+    uint8_t reversed[20];
+    size_t length = 0;
+    for (; whole > 0 || length < digits; whole /= 10) {
+        reversed[length++] = (uint8_t)('0' + whole % 10);
+    }
+    while (length > 0) {
+        put(&reversed[--length], 1);
+    }
+}
+
+static void put_inches(uint64_t figure) {
+    put_number(figure / 10000, 1);
+    put_text(".");
+    put_number(figure % 10000, 4);
+}
+
+static bool leap(uint32_t year) { return year % 4 == 0 && (year % 100 != 0 || year % 400 == 0); }
+
+/* The month of a good date, 1 to 12: the last that has fewer days of its year before it than d. */
+static uint32_t month_of(uint32_t year, uint32_t d) {
+    static const uint32_t days_before[] = {0, 31, 59, 90, 120, 151, 181, 212, 243, 273, 304, 334};
+    uint32_t month = 12;
+    while (month > 1 && d <= days_before[month - 1] + (month > 2 && leap(year))) {
+        month--;
+    }
+    return month;
+}
+
+/* The answered days of a month or of a block, and their figures' sum. */
+struct total {
+    uint32_t year, month, days;
+    uint64_t sum;
+};
+
+static void put_total(struct total total) {
+    put_number(total.days, 1);
+    put_text(" ");
+    put_inches(total.sum);
+    put_text("\n");
+}
+
+static void put_month(const uint8_t *code, struct total total) {
+    if (total.days > 0) {
+        put(code, 4);
+        put_text(" ");
+        put_number(total.year, 4);
+        put_text(" ");
+        put_number(total.month, 2);
+        put_text(" ");
+        put_total(total);
+    }
+}
+
+/* The lines after those of a block's answers. An answered day is later than those before it, so that the days of a month
+ * stand together. */
+static void put_totals(const uint8_t *code, const uint8_t *answer, const uint8_t *end) {
+    struct total month = {0}, season = {0};
+    for (; answer < end; answer += FIGURE_ANSWER_LENGTH) {
+        if (answer[0] != 3 && answer[0] != 9) {
+            continue;
+        }
+        uint32_t year = plain(answer + 1), figure = number(answer + 5, 4);
+        uint32_t of_year = month_of(year, plain(answer + 3));
+        if (year != month.year || of_year != month.month) {
+            put_month(code, month);
+            month = (struct total){year, of_year, 0, 0};
+        }
+        month.days++;
+        month.sum += figure;
+        season.days++;
+        season.sum += figure;
+    }
+    put_month(code, month);
+    put(code, 4);
+    put_text(" ALL ");
+    put_total(season);
+}
+
+/* The line of a day's answer or of a crop's. */
+static void put_line(const uint8_t *code, const uint8_t *answer) {
+    uint32_t last = number(answer + 5, 4);
+    if (answer[0] == 7) {
+        put(answer + 1, 4);
+        put_text(" ");
+    } else {
+        put(code, 4);
+        put_text(" ");
+        put_number(plain(answer + 1), 4);
+        put_text(" ");
+        put_number(plain(answer + 3), 3);
+        put_text(" ");
+    }
+    if (answer[0] == 4) {
+        put_text("R");
+        put_number(last, 1);
+    } else {
+        put_inches(last);
+    }
+    put_text(answer[0] == 9 ? " E\n" : "\n");
+}
+
+/* The text is the line of a refused log, or the header and, for each block, the lines of its answers and of its totals. */
 static void check_text(const uint8_t *text, size_t length, uint64_t read, const uint8_t *answers) {
-    static const char header[] = "STN YEAR DAY ET\n";
+    built.length = 0;
     if (refusal(read) != 0) {
-        char line[64];
-        int expected = snprintf(line, sizeof line, "REFUSED %u %u\n", refusal(read), value(read));
-        require(length == (size_t)expected && memcmp(text, line, length) == 0, "a refused log's report is its one line");
+        put_text("REFUSED ");
+        put_number(refusal(read), 1);
+        put_text(" ");
+        put_number(value(read), 1);
+        put_text("\n");
+        require(length == built.length && memcmp(text, built.bytes, length) == 0, "a refused log's report is its one line");
         return;
     }
-    size_t lines = 1, ended = 0, estimated = 0, marked = 0;
-    for (const uint8_t *answer = answers; answer < answers + value(read);) {
-        lines += answer[0] != 5;
-        estimated += answer[0] == 9;
-        answer += answer[0] == 5 ? STATION_ANSWER_LENGTH : FIGURE_ANSWER_LENGTH;
+    const uint8_t *answer = answers, *end = answers + value(read);
+    put_text("STN YEAR DAY ET\n");
+    while (answer < end) {
+        const uint8_t *code = answer + 1, *first = answer + STATION_ANSWER_LENGTH;
+        for (answer = first; answer < end && answer[0] != 5; answer += FIGURE_ANSWER_LENGTH) {
+            put_line(code, answer);
+        }
+        put_totals(code, first, answer);
     }
-    for (size_t i = 0; i < length; i++) {
-        ended += text[i] == '\n';
-        marked += i >= 2 && memcmp(text + i - 2, " E\n", 3) == 0;
-    }
-    require(length >= sizeof header - 1 && memcmp(text, header, sizeof header - 1) == 0, "a report begins with the header");
-    require(text[length - 1] == '\n' && ended == lines, "a report has a line for each figure and refusal");
-    require(marked == estimated, "a report has an E for each estimated day");
+    require(length == built.length && memcmp(text, built.bytes, length) == 0,
+            "a report has the header, and each block's answers and totals");
 }
 
 /* One report, for a log that was just read into `answers` with the result `read`. Returns what the library returned. */
@@ -393,7 +510,7 @@ static void try_input(const uint8_t *input, size_t size, bool in_heap) {
 
     uint64_t too_short = report(last_log, log_length, last, expected, placed(text_region, 0, true), 2);
     size_t text_needed = value(too_short);
-    require(refusal(too_short) == TOO_SHORT_A_BUFFER && text_needed <= REPORT_LIMIT, "a report has 1 to 138,688 bytes");
+    require(refusal(too_short) == TOO_SHORT_A_BUFFER && text_needed <= REPORT_LIMIT, "a report has 1 to 223,457 bytes");
     returned = report(last_log, log_length, last, expected, placed(text_region, text_needed - 1, true), 3);
     require(returned == too_short, "one byte less than a report needs is too short");
     struct buffer text = placed(text_region, text_needed, true);

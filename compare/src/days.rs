@@ -1,4 +1,5 @@
 //! The days and logs to compare on, from a seeded generator: the same seed gives the same days everywhere.
+use crate::second::calendar::month_lengths;
 use crate::second::judge;
 use crate::second::sheet::clear_day;
 use crate::{Crop, Day, Earlier, Station, Verdict, MISSING, ROUTINE_LIMIT};
@@ -281,12 +282,22 @@ fn station(random: &mut Random) -> Station {
     }
 }
 
+/// The last day of each month in a common year.
+const COMMON_MONTH_ENDS: [u16; 12] = [31, 59, 90, 120, 151, 181, 212, 243, 273, 304, 334, 365];
+
+/// One of three days about a month's end, which in common years and in leap years has its last day among them and the first
+/// of the next month.
+fn about_month_end(random: &mut Random) -> u16 {
+    random.pick(&COMMON_MONTH_ENDS) + random.between(0, 2) as u16
+}
+
 fn date(random: &mut Random) -> (u16, u16) {
-    let d = match random.below(4) {
-        0 => random.pick(&[1, 2, 3, 4, 59, 60, 61, 362, 363, 364, 365]),
-        _ => random.between(1, 365),
+    let d = match random.below(6) {
+        0 => random.pick(&[1, 2, 3, 4, 362, 363, 364, 365]),
+        1 => about_month_end(random).min(365),
+        _ => random.between(1, 365) as u16,
     };
-    (random.between(1_950, 2_099) as u16, d as u16)
+    (random.between(1_950, 2_099) as u16, d)
 }
 
 /// A crop in range, mostly of this date's year and with its start near, so that days before, in and after it follow.
@@ -633,8 +644,15 @@ fn fill(body: &mut [u8], numbers: &[u16]) {
     }
 }
 
-/// Mostly the next day; gaps of a few days, the same day and the day before; day 366 in any year.
+/// Mostly the next day; gaps of a few days, of months and of years, the same day and the day before; day 366 in any year.
 fn next_date(random: &mut Random, (year, d): (u16, u16)) -> (u16, u16) {
+    if random.one_in(60) {
+        let next = about_month_end(random);
+        return (
+            year + random.pick(&[0, 0, 0, 1]) + u16::from(next <= d),
+            next,
+        );
+    }
     let step = match random.below(30) {
         0 => -1,
         1 => 0,
@@ -722,6 +740,14 @@ pub fn log_of_length(random: &mut Random, length: usize) -> Option<Vec<u8>> {
     Some(log(random, records))
 }
 
+/// A station with the routine's limit, whose record is of kind 1.
+fn routine_station(random: &mut Random) -> Station {
+    Station {
+        wind_limit: ROUTINE_LIMIT,
+        ..station(random)
+    }
+}
+
 /// A day of a station that has a figure, whatever the earlier means.
 fn answered(random: &mut Random, station: Station, date: (u16, u16)) -> Day {
     loop {
@@ -732,29 +758,124 @@ fn answered(random: &mut Random, station: Station, date: (u16, u16)) -> Day {
     }
 }
 
+/// A crop of every day of a year but the 366th.
+fn crop_of_year(random: &mut Random, year: u16) -> Crop {
+    Crop {
+        year,
+        start: 1,
+        full: 365,
+        ..crop(random, (year, 1))
+    }
+}
+
 /// One station of kind 1, and a crop for each year's days from 1 to 365: with eleven crops, 3,839 days fit, each with a
-/// figure, the mark of a day without a dew point, and a crop figure. No log has longer answers; nor a longer report, as long
-/// as no crop figure has ten inches.
+/// figure, the mark of a day without a dew point, and a crop figure. No log has longer answers.
 pub fn answered_log(random: &mut Random) -> Vec<u8> {
-    let station = Station {
-        wind_limit: ROUTINE_LIMIT,
-        ..station(random)
-    };
+    let station = routine_station(random);
     let mut log = station_record(&station);
     let dates = (1_950..=2_099).flat_map(|year| (1..=365).map(move |d| (year, d)));
     for (year, d) in dates.take(3_839) {
         if d == 1 {
-            log.extend(crop_record(&Crop {
-                year,
-                start: 1,
-                full: 365,
-                ..crop(random, (year, d))
-            }));
+            log.extend(crop_record(&crop_of_year(random, year)));
         }
         let day = without_dew_point(answered(random, station, (year, d)));
         log.extend(day_record(&day));
     }
     log
+}
+
+/// Two stations of kind 1, a crop for each of their years, and a day without a dew point in each month: with 290 crops,
+/// 3,477 days fit, each with a month line beside its own line, its mark and its crop figure. One station has too few months
+/// in the calendar; a third one, or a second day in a month, gives less than the day of another month that it takes the room
+/// of. The days are hot, dry and windy, so that either season has over a thousand inches. No log has a longer report, as long
+/// as no crop figure has ten inches.
+pub fn monthly_log(random: &mut Random) -> Vec<u8> {
+    let mut log = Vec::new();
+    let mut days = 0;
+    for _ in 0..2 {
+        log.extend(station_record(&routine_station(random)));
+        for year in 1_950..2_095 {
+            log.extend(crop_record(&crop_of_year(random, year)));
+            // About the middle of each month.
+            for d in (15..=345).step_by(30).take(3_477 - days) {
+                log.extend(day_record(&Day {
+                    year,
+                    d,
+                    maximum: random.between(1_200, HIGHEST_TEMPERATURE.into()) as i16,
+                    minimum: random.between(LOWEST_TEMPERATURE.into(), 0) as i16,
+                    mean: random.between(0, 100) as i16,
+                    dewpoint: MISSING,
+                    radiation: random.between(0, 500) as i16,
+                    wind: random.between(ROUTINE_LIMIT.into(), 9_999) as i16,
+                }));
+                days += 1;
+            }
+        }
+    }
+    log
+}
+
+/// Leap years and common ones, the calendar's first and its last among them, and 2000, the only leap century year that it has.
+const MONTH_YEARS: [u16; 8] = [1_950, 1_951, 1_952, 1_999, 2_000, 2_008, 2_096, 2_099];
+
+fn first_and_last_days(year: u16) -> Vec<(u16, u16)> {
+    let mut before = 0;
+    let mut dates = Vec::new();
+    for length in month_lengths(year) {
+        dates.extend([(year, before + 1), (year, before + length)]);
+        before += length;
+    }
+    dates
+}
+
+/// A day that is answered if there is such a date; every third lacks its dew point.
+fn answered_if_dated(random: &mut Random, station: Station, (year, d): (u16, u16)) -> Day {
+    let day = Day {
+        year,
+        d,
+        ..answered(random, station, (2_008, d.clamp(1, 366)))
+    };
+    if d.is_multiple_of(3) {
+        without_dew_point(day)
+    } else {
+        day
+    }
+}
+
+/// The edges of W5's months, in logs for each of some years: every day of the year and the numbers beside them, with a crop;
+/// the first and the last day of each month; those of the next year behind them; those at one station, then refused, then
+/// answered again; and those of each month in a block of their own, twice.
+pub fn month_edges(random: &mut Random) -> Vec<Vec<u8>> {
+    let mut logs = Vec::new();
+    for year in MONTH_YEARS {
+        let station = station(random);
+        let mut on = |dates: Vec<(u16, u16)>| -> Vec<Day> {
+            let day = |date| answered_if_dated(random, station, date);
+            dates.into_iter().map(day).collect()
+        };
+        let whole = on((0..=367).map(|d| (year, d)).collect());
+        let ends = on(first_and_last_days(year));
+        let of_next = on(first_and_last_days(year + 1));
+        let refused = ends.iter().map(|day| Day {
+            wind: MISSING,
+            ..*day
+        });
+        let refused: Vec<Day> = refused.collect();
+        let opening = station_record(&station);
+        let block = |days: &[Day]| -> Vec<u8> {
+            let records = days.iter().flat_map(day_record);
+            opening.iter().copied().chain(records).collect()
+        };
+        let crop = crop_record(&crop_of_year(random, year));
+        let of_whole = &block(&whole)[opening.len()..];
+        logs.push([&opening[..], &crop, of_whole].concat());
+        logs.push(block(&ends));
+        logs.push(block(&[&ends[..], &of_next].concat()));
+        logs.push([&ends, &refused, &ends].map(|days| block(days)).concat());
+        let twice = |month: &[Day]| block(month).repeat(2);
+        logs.push(ends.chunks(2).flat_map(twice).collect());
+    }
+    logs
 }
 
 /// A log of one crop and days of its year: those of its stages, and those beside its start and its end.
@@ -847,10 +968,7 @@ pub fn dew_point_logs(random: &mut Random) -> Vec<Vec<u8>> {
 /// it stands alone, and behind a block with a crop and the lowest limit. And a record of kind 8 that is cut off before its
 /// limit and inside.
 pub fn station_edges(random: &mut Random) -> Vec<Vec<u8>> {
-    let station = Station {
-        wind_limit: ROUTINE_LIMIT,
-        ..station(random)
-    };
+    let station = routine_station(random);
     let days = [180, 181, 182, 183].map(|d| answered(random, station, (2_008, d)));
     let block = |station: &Station, record: &[u8]| {
         let mut block = record.to_vec();

@@ -4,7 +4,7 @@
 use compare::days::{self, Case, Random};
 use compare::routine::{self, Known};
 use compare::second::log::Judged;
-use compare::second::{crop, station, Reason};
+use compare::second::{calendar, crop, station, Reason};
 use compare::{equation, office, second, table_text, Day, Outcome, Verdict, MISSING};
 use std::collections::{BTreeMap, BTreeSet};
 use std::fmt::Debug;
@@ -46,8 +46,8 @@ const ALLOWED: f64 = 0.515;
 const CROP_ALLOWED: f64 = 1.53;
 
 const LONGEST_LOG: usize = 65_536;
-/// The header and the lines of 3,839 days with a figure, a mark and a crop figure.
-const LONGEST_REPORT: usize = 134_381;
+/// The header and two blocks: 3,477 days with a figure, a mark, a crop figure and a month line, and two season lines.
+const LONGEST_REPORT: usize = 198_253;
 
 fn main() -> ExitCode {
     let start = Instant::now();
@@ -416,6 +416,7 @@ struct LogTally {
     dew_points: DewPointTally,
     stations: StationTally,
     crops: CropTally,
+    months: MonthTally,
     reports: ReportTally,
 }
 
@@ -517,6 +518,7 @@ impl LogTally {
             self.stations.count_day(judged);
             self.crops.check(judged)?;
         }
+        self.months.count(&report);
         Ok(())
     }
 
@@ -561,6 +563,7 @@ impl LogTally {
         self.dew_points.print("answers of kind 9");
         self.stations.print();
         self.crops.print();
+        self.months.print();
         self.reports.print();
     }
 }
@@ -711,6 +714,118 @@ impl CropTally {
     }
 }
 
+/// The years and months of a block's month lines, in order.
+type Months = Vec<(u16, u16)>;
+
+/// Whether the months of a log's blocks stand to each other in some way.
+type StandSo = fn(&[Months]) -> bool;
+
+/// The ways that the report must have been compared in.
+const MONTH_STANDINGS: [(&str, StandSo); 4] = [
+    ("no answered day in a block", |blocks| {
+        blocks.iter().any(Vec::is_empty)
+    }),
+    ("December and the next January in a block", |blocks| {
+        blocks.iter().any(|months| {
+            let mut neighbours = months.windows(2);
+            neighbours.any(|two| (two[0].1, two[1]) == (12, (two[0].0 + 1, 1)))
+        })
+    }),
+    ("one month of two years in a block", |blocks| {
+        blocks.iter().any(|months| {
+            let of_year: BTreeSet<u16> = months.iter().map(|(_, month)| *month).collect();
+            of_year.len() < months.len()
+        })
+    }),
+    ("a block's last month first in the next block", |blocks| {
+        let mut neighbours = blocks.windows(2);
+        neighbours.any(|two| !two[0].is_empty() && two[0].last() == two[1].first())
+    }),
+];
+
+const KINDS_OF_YEARS: [&str; 2] = ["common", "leap"];
+
+/// What the totals of reports were about.
+#[derive(Default)]
+struct MonthTally {
+    months: u64,
+    seasons: u64,
+    /// For each kind of year and each month, how often its first day was answered, and its last.
+    ends: [[[u64; 2]; 12]; KINDS_OF_YEARS.len()],
+    /// The reports of each standing.
+    standings: [u64; MONTH_STANDINGS.len()],
+}
+
+impl MonthTally {
+    /// A report of the second implementation that was found to be the library's or the program's.
+    fn count(&mut self, report: &str) {
+        let number = |digits: &str| -> u16 { digits.parse().expect("digits") };
+        let mut blocks: Vec<Months> = Vec::new();
+        let mut months = Months::new();
+        for line in report.lines().skip(1) {
+            match line.split(' ').collect::<Vec<_>>()[..] {
+                [_, "ALL", _, _] => blocks.push(std::mem::take(&mut months)),
+                // A day's line with W4's mark has five fields too, but three digits for its day.
+                [_, year, month, _, _] if month.len() == 2 => {
+                    months.push((number(year), number(month)));
+                }
+                [_, year, d, inches, ..] if !inches.starts_with('R') => {
+                    self.count_day(number(year), number(d));
+                }
+                _ => {}
+            }
+        }
+        self.seasons += blocks.len() as u64;
+        self.months += blocks.iter().map(|months| months.len() as u64).sum::<u64>();
+        for (met, (_, holds)) in self.standings.iter_mut().zip(MONTH_STANDINGS) {
+            *met += u64::from(holds(&blocks));
+        }
+    }
+
+    fn count_day(&mut self, year: u16, d: u16) {
+        let (month, day) = calendar::month_and_day(year, d);
+        let place = usize::from(month) - 1;
+        let [first, last] = &mut self.ends[usize::from(calendar::is_leap(year))][place];
+        *first += u64::from(day == 1);
+        *last += u64::from(day == calendar::month_lengths(year)[place]);
+    }
+
+    fn print(&self) {
+        println!(
+            "  lines of months: {}, of seasons: {}",
+            self.months, self.seasons
+        );
+        for (years, by_month) in KINDS_OF_YEARS.iter().zip(&self.ends) {
+            let least = by_month.iter().flatten().min();
+            println!(
+                "  each month's first day and last day answered in {years} years: at least {} times",
+                least.expect("a year has months")
+            );
+        }
+        for ((standing, _), met) in MONTH_STANDINGS.iter().zip(self.standings) {
+            println!("  {standing}: {met} reports");
+        }
+    }
+
+    fn all_reached(&self, of: &str) -> Result<(), String> {
+        for (years, by_month) in KINDS_OF_YEARS.iter().zip(&self.ends) {
+            for (month, [first, last]) in (1..).zip(by_month) {
+                if *first == 0 || *last == 0 {
+                    return Err(format!(
+                        "no report {of} had the first or the last day of month {month} in {years} years"
+                    ));
+                }
+            }
+        }
+        for ((standing, _), met) in MONTH_STANDINGS.iter().zip(self.standings) {
+            if met == 0 {
+                return Err(format!("no report {of} had {standing}"));
+            }
+        }
+        Ok(())
+    }
+}
+
 /// What `read_log` returned, and the answer buffer as it left it.
 struct Read {
     outcome: Outcome,
@@ -800,9 +915,11 @@ impl ReportTally {
     }
 }
 
-/// The longest log, one byte less and more, far too long ones, faults at the far end, and the longest report.
+/// The longest log, one byte less and more, far too long ones, faults at the far end, the longest answers and the longest
+/// report.
 fn full_logs(random: &mut Random) -> Vec<Vec<u8>> {
     let answered = days::answered_log(random);
+    let monthly = days::monthly_log(random);
     let mut made = |length| days::log_of_length(random, length).expect("records fill it");
     let full = made(LONGEST_LOG);
     let mut logs = vec![
@@ -818,6 +935,7 @@ fn full_logs(random: &mut Random) -> Vec<Vec<u8>> {
     logs.push([&full[..], &full[..]].concat());
     logs.push(full);
     logs.push(answered);
+    logs.push(monthly);
     logs
 }
 
@@ -844,6 +962,9 @@ fn compare_logs(size: &Size) -> Result<LogTally, String> {
             tally.check(&log)?;
         }
         for log in days::dew_point_logs(&mut random) {
+            tally.check(&log)?;
+        }
+        for log in days::month_edges(&mut random) {
             tally.check(&log)?;
         }
     }
@@ -937,7 +1058,7 @@ const LOG_KINDS: [(&str, IsOfKind); 14] = [
     ("with an estimated day", |_, report| {
         report.lines().any(|line| line.ends_with(" E"))
     }),
-    ("with a report of 134381 bytes", |_, report| {
+    ("with a report of 198253 bytes", |_, report| {
         report.len() == LONGEST_REPORT
     }),
 ];
@@ -946,6 +1067,7 @@ const LOG_KINDS: [(&str, IsOfKind); 14] = [
 struct ProgramTally {
     texts: u64,
     met: [u64; LOG_KINDS.len()],
+    months: MonthTally,
 }
 
 impl ProgramTally {
@@ -963,6 +1085,7 @@ impl ProgramTally {
         for (met, (_, is_of_kind)) in self.met.iter_mut().zip(LOG_KINDS) {
             *met += u64::from(is_of_kind(log, &expected));
         }
+        self.months.count(&expected);
         Ok(())
     }
 
@@ -971,6 +1094,7 @@ impl ProgramTally {
         for (met, (kind, _)) in self.met.iter().zip(LOG_KINDS) {
             println!("  {kind}: {met} logs");
         }
+        self.months.print();
     }
 }
 
@@ -979,6 +1103,7 @@ fn compare_program() -> Result<ProgramTally, String> {
     let mut logs = sample_logs()?;
     logs.push(Vec::new());
     logs.extend(full_logs(&mut random));
+    logs.extend(days::month_edges(&mut random));
     for _ in 0..150 {
         let log = days::sound_log(&mut random, 60);
         logs.push(log.clone());
@@ -994,8 +1119,9 @@ fn compare_program() -> Result<ProgramTally, String> {
 }
 
 /// Fails if a refusal that can be given was never met, a kind of station never accepted, a wind run never cut by a limit
-/// below the routine's, nothing of some sort became of a day without a dew point, a day never stood in some way to a crop, a
-/// kind of report was never written to a kind of text buffer, or the report program never run on a kind of log.
+/// below the routine's, nothing of some sort became of a day without a dew point, a day never stood in some way to a crop, no
+/// report had an end of some month or months that stand in some way to each other, a kind of report was never written to a
+/// kind of text buffer, or the report program never run on a kind of log.
 fn all_reached(days: &DayTally, logs: &LogTally, program: &ProgramTally) -> Result<(), String> {
     let of_days = [3, 6, 7, 8, 9, 10].map(|number| (number, "days alone", days.refused[number]));
     let of_logs = [1, 2, 3, 4, 5, 12, 13].map(|number| (number, "logs", logs.refused[number]));
@@ -1059,6 +1185,8 @@ fn all_reached(days: &DayTally, logs: &LogTally, program: &ProgramTally) -> Resu
             return Err(format!("no crop figure{what} was met"));
         }
     }
+    logs.months.all_reached("of the library")?;
+    program.months.all_reached("of the program")?;
     for (kind, by_room) in REPORTS.iter().zip(logs.reports.0) {
         for ((room, _), met) in TEXT_BUFFERS.iter().zip(by_room) {
             if met == 0 {

@@ -9,6 +9,7 @@ pub mod sheet;
 pub mod station;
 pub mod tables;
 pub mod text;
+pub mod totals;
 
 pub use log::{answer_bytes, put, read_log, write};
 pub use text::{refused_line, report};
