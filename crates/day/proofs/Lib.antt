@@ -1,5 +1,6 @@
 -- The lemmas that belong to no one function.
 pub mod Tests
+pub mod Dates
 pub mod Passed
 pub mod Standings
 pub mod Marks

@@ -15,13 +15,14 @@ use Rattle.numbers.proofs.IntegerOrder.{leZ-is}
 use Rattle.sheet.specs.Quantities as quantities
 use Rattle.sheet.specs.Accepted.{ReadingsInRange, EntriesInRange}
 use Rattle.tables.proofs.ValueRanges.{albedo-in, a1-in, aw-in, bw-in, pressure-in}
-use Rattle.day.specs.Calendar.{yearLength, isDate}
+use Rattle.day.specs.Calendar.{isDate}
 use Rattle.day.specs.Rules.{anyOf, stationFaults, readingFaults, meanFault, orderFaults}
 use Rattle.day.specs.Judgement.{readingsOf, entriesAt, holds}
 use Rattle.day.specs.declared.Station.{Station}
 use Rattle.day.specs.declared.Day.{Day}
 use Rattle.day.specs.declared.Earlier.{Earlier}
 use Rattle.day.specs.declared.Refusal.the-variants.{StationField, BadDate, OutOfRange, OutOfOrder}
+use Rattle.day.proofs.Dates.{year-length-in, Dated, date-tells}
 use Rattle.day.proofs.Tests.{AllFalse, all-false, passed}
 
 -- ---- the station
@@ -48,40 +49,16 @@ module _ (st : Station) (day : Day) (earlier : Earlier) (accepted : holds Statio
 
 -- ---- the date
 
--- a year has 365 days or 366
-pub year-length-in : (y : ℕ) → (365 ≤ yearLength y) × (yearLength y ≤ 366)
-unfolding yearLength
-year-length-in y = chosen (eqb (y % 4) 0) (eqb (y % 100) 0) (eqb (y % 400) 0)
-  where
-    chosen : (a b c : Bool) → let n : ℕ = cond a (cond b (cond c 366 365) 366) 365 in (365 ≤ n) × (n ≤ 366)
-    chosen true true true = omega arith
-    chosen true true false = omega arith
-    chosen true false c = omega arith
-    chosen false b c = omega arith
-
--- a date's day is one of its year
-pub date-in-year : (year d : ℕ) → isDate year d ≡ true → (1 ≤ d) × (d ≤ yearLength year)
-unfolding isDate
-date-in-year year d e =
-    let p = tests (ltb year 1950) (ltb 2099 year) (ltb d 1) (leb d (yearLength year)) e in
-    (ltb-false d 1 (p .0), leb-true d (yearLength year) (p .1))
-  where
-    tests : (a b c t : Bool) → cond a false (cond b false (cond c false t)) ≡ true → (c ≡ false) × (t ≡ true)
-    tests true b c t e = absurd (subst T (sym e) tt)
-    tests false true c t e = absurd (subst T (sym e) tt)
-    tests false false true t e = absurd (subst T (sym e) tt)
-    tests false false false t e = (refl, e)
-
 module _ (st : Station) (day : Day) (earlier : Earlier) (accepted : holds BadDate st day earlier ≡ false) where
-  day-passed : (1 ≤ day .d) × (day .d ≤ yearLength (day .year))
+  date : Dated (day .year) (day .d)
   unfolding holds
-  day-passed = date-in-year (day .year) (day .d) (not-false (isDate (day .year) (day .d)) accepted)
+  date = date-tells (day .year) (day .d) (not-false (isDate (day .year) (day .d)) accepted)
 
   pub day-low : 1 ≤ day .d
-  day-low = day-passed .0
+  day-low = date .first-day
 
   pub day-high : day .d ≤ 366
-  day-high = le-trans (day-passed .1) (year-length-in (day .year) .1)
+  day-high = le-trans (date .last-day) (year-length-in (day .year) .1)
 
 -- ---- the readings and the earlier means
 

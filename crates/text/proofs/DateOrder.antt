@@ -12,9 +12,9 @@ use Rattle.day.specs.declared.Verdict.the-variants.{Figure, Refused, Estimated}
 use Rattle.log.specs.DateOrder.{Next, InDateOrder}
 use Rattle.log.specs.History.{dayNumber}
 use Rattle.log.specs.Log.{answersTo}
-use Rattle.log.proofs.Calendar.{date-tells}
+use Rattle.day.proofs.Dates.{date-tells}
 use Rattle.log.proofs.DateOrder.{in-date-order, by-number}
-use Rattle.totals.specs.Months.{monthOf, monthNumber}
+use Rattle.totals.specs.Months.{monthOf, yearAt, monthAt, months, monthNumber}
 use Rattle.totals.specs.Tally.{Comes, InMonthOrder}
 use Rattle.totals.specs.declared.tally.Counted.the-variants.{Day}
 use Rattle.totals.proofs.Calendar.{month-range, months-ascend}
@@ -41,12 +41,17 @@ from-a-date year d date year' d' n =
     omega (arith, same .0, ap (λ (y : ℕ). monthOf y d') (same .0), months-ascend year d d' date there (omega (arith, same .1))))
     (by-number year d year' d' date (n .0) (n .1))
 
+-- a date's month has its number, and it is one of the calendar's
+pub date-listed : (year d : ℕ) → isDate year d ≡ true → let i : ℕ = monthAfter year d in (yearAt i ≡ year) × (monthAt i ≡ monthOf year d) × (i < months)
+date-listed year d date =
+    let told = date-tells year d date in
+    let month = month-range year d date in
+    (omega (arith, told, month), omega (arith, told, month), omega (arith, told, month))
+
 comes : (k last year d n : ℕ) → Behind k last → Next last year d → Comes k (Day year (monthOf year d) n)
 unfolding Behind
 comes k last year d n behind next =
-    let date = date-tells year d (next .0) in
-    let month = month-range year d (next .0) in
-    (omega (arith, date, month), omega (arith, date, month), behind year d next, omega (arith, date, month))
+    let listed = date-listed year d (next .0) in (listed .0, listed .1, behind year d next, listed .2)
 
 own-ordered : (k last : ℕ) (l : List Answer) → Behind k last → InDateOrder last l → InMonthOrder k (own l)
 own-ordered k last [] b h = tt

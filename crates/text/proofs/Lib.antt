@@ -9,4 +9,5 @@ pub mod FromLog
 pub mod DateOrder
 pub mod Sizes
 pub mod LongEnough
+pub mod Totals
 pub mod WorkedReport

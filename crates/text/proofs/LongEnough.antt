@@ -32,7 +32,7 @@ use Rattle.log.specs.History.{goodDate, earlierMeans, verdictOf}
 use Rattle.log.specs.Log.{Planted, bare, planted, Entry, station, day, crop, cropAnswer, cropAnswers, longest, longestAnswers, answersTo, answersOf, readingOf, entriesOf, outcomeOf, settled}
 use Rattle.log.specs.declared.Outcome.{Outcome}
 use Rattle.log.specs.declared.Outcome.the-variants as outcome
-use Rattle.log.proofs.Calendar.{date-tells}
+use Rattle.day.proofs.Dates.{date-tells}
 use Rattle.log.proofs.Carried.{PlantedSound}
 use Rattle.log.proofs.Days.{good-date}
 use Rattle.log.proofs.Counted.{stationsOf, daysOf, figuresOf}

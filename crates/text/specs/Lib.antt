@@ -1,3 +1,4 @@
 -- The definitions that the contracts of the report cite.
 pub mod Report
+pub mod Totals
 pub mod Walk

@@ -11,7 +11,7 @@ use lib.ListN.{getD}
 use Rattle.numbers.proofs.Table.{every, entry-passes}
 use Rattle.tables.proofs.Searches.{none-before, first-passes, first-at-most}
 use Rattle.day.specs.Calendar.{yearLength, isDate}
-use Rattle.day.proofs.Passed.{year-length-in, date-in-year}
+use Rattle.day.proofs.Dates.{year-length-in, date-tells}
 use Rattle.totals.specs.Months.{offsets, leapDays, daysBy, monthOf, lengths, addedUp, daysOfFirst, InMonth}
 
 -- ---- the table has the days that the months' lengths add up to
@@ -57,7 +57,7 @@ module _ (year d : ℕ) where
 
   module _ (date : isDate year d ≡ true) where
     in-year : (1 ≤ d) × (d ≤ daysOfFirst 12 year)
-    in-year = rw (months-whole year) (date-in-year year d date)
+    in-year = let told = date-tells year d date in rw (months-whole year) (told .first-day, told .last-day)
 
     to-december : monthOf year d ≤ 12
     to-december = at-most 12 (lit≤ tt) (in-year .1)

@@ -46,18 +46,22 @@ one-more chosen (b ∷ before) a =
 abbrev pub shareAt : Counted → ℕ → ℕ → Total
 shareAt c year month = shareOf (isMonth year month) c
 
--- a month's own number is that of its own year and month alone
+pub same-month : (year month : ℕ) → isMonth year month year month ≡ true
+same-month year month = ap₂ _&&_ (eq-eqb year year refl) (eq-eqb month month refl)
+
+pub other-month : (y m year month : ℕ) → ((y ≡ year) × (m ≡ month) → ⊥) → isMonth y m year month ≡ false
+other-month y m year month other = by (ℕ-discrete year y)
+  where
+    by : Dec (year ≡ y) → isMonth y m year month ≡ false
+    by (no f) = ap (λ (b : Bool). b && eqb month m) (ne-eqb year y f)
+    by (yes e) = ap (λ (b : Bool). eqb year y && b) (ne-eqb month m (λ f. other (sym e, sym f))) ∙ and-false (eqb year y)
+
+-- a month's number is that of its own year and month alone
 pub is-month : (i : ℕ) {year month : ℕ} → yearAt i ≡ year → monthAt i ≡ month → isMonth (yearAt i) (monthAt i) year month ≡ true
-is-month i {year} {month} y m = ap₂ _&&_ (eq-eqb year (yearAt i) (sym y)) (eq-eqb month (monthAt i) (sym m))
+is-month i {year} {month} y m = (λ x. isMonth (y x) (m x) year month) ∙ same-month year month
 
 pub not-month : (i j : ℕ) {year month : ℕ} → yearAt i ≡ year → monthAt i ≡ month → (i ≡ j → ⊥) → isMonth (yearAt j) (monthAt j) year month ≡ false
-not-month i j {year} {month} y m other = by (ℕ-discrete year (yearAt j))
-  where
-    by : Dec (year ≡ yearAt j) → isMonth (yearAt j) (monthAt j) year month ≡ false
-    by (no f) = ap (λ (b : Bool). b && eqb month (monthAt j)) (ne-eqb year (yearAt j) f)
-    by (yes e) =
-        ap (λ (b : Bool). eqb year (yearAt j) && b) (ne-eqb month (monthAt j) (λ f. other (omega (arith, y, m, e, f))))
-        ∙ and-false (eqb year (yearAt j))
+not-month i j {year} {month} y m other = other-month (yearAt j) (monthAt j) year month (λ e. other (omega (arith, y, m, e .0, e .1)))
 
 module _ (k year month n : ℕ) (c : Comes k (Day year month n)) where
   abbrev i : ℕ

@@ -46,7 +46,7 @@ returns-2 : tie.Need-returns-2
 returns-2 c =
     let called = c .before .before in
     let wrote = called .before .before in
-    laid (wrote .before) (written-line (wrote .if2 .taken) (called .put-month-line .ensures))
+    laid (wrote .before) (written-line {text = shown (s (wrote .before)) false} (wrote .if2 .taken) (called .put-month-line .ensures))
 
 add-result : tie.Need-add-result
 add-result c = omega (arith, c .month-line .ensures .size, fits (c .before .before .before) .0)

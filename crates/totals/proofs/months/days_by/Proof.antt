@@ -7,7 +7,7 @@ use borrow.Author.Tests.{lt-ltb, le-ltb}
 use lib.Dec.{leb, leb→le}
 use lib.ListN.{getD}
 use Rattle.numbers.proofs.Table.{entry-passes}
-use Rattle.day.proofs.Passed.{year-length-in}
+use Rattle.day.proofs.Dates.{year-length-in}
 use Rattle.totals.specs.Months.{offsets, daysBy}
 use Rattle.totals.proofs.months.days_by.Statement.{statement}
 use Rattle.totals.proofs.months.days_by.Tie as tie
