@@ -147,7 +147,7 @@ module _ (st : Station) (day : Day) (earlier : Earlier) (t : Entries) (entries-a
   answered-by e = by-refusal (all-false (tests st day earlier t) e)
 
 -- by computation: none of the refusals holds, and the figure is n, with the mark that the day has
-worked : (st : Station) (day : Day) (earlier : Earlier) (t : Entries) → entriesOf st (asJudged day) ≡ t → SignedConstants st → {root : ℤ} →
+pub worked : (st : Station) (day : Day) (earlier : Earlier) (t : Entries) → entriesOf st (asJudged day) ≡ t → SignedConstants st → {root : ℤ} →
     sheet.r (sheet.e (asJudged day .dewpoint)) ≡ root → anyOf (tests st (asJudged day) earlier t) ≡ false → {n : ℕ} →
     natAbs (figureWith (readingsOf (asJudged day)) t (earlierOf earlier) (clearOf st (asJudged day)) (pos (st .limit)) root) ≡ n → {verdict : ℕ → Verdict} →
     withMark day n ≡ verdict n → Worked st day earlier verdict n
@@ -164,10 +164,10 @@ worked st day earlier t entries-are constants {root} is none {n} same mark =
 abbrev limited : ℕ → Station
 limited limit = lidwWith 76 100 497 limit
 
-abbrev station : Station
+abbrev pub station : Station
 station = limited routineLimit
 
-constants : {limit : ℕ} → SignedConstants (limited limit)
+pub constants : {limit : ℕ} → SignedConstants (limited limit)
 constants =
     record {
       c1 = record { bounds = lit≤ tt };
@@ -177,7 +177,7 @@ constants =
       c5 = record { bounds = lit≤ tt };
     }
 
-pressure : 954_675 ≡ pressureAt 497
+pub pressure : 954_675 ≡ pressureAt 497
 unfolding powerTest upper lower tenthUp tenthDown
 pressure = pressure-is 497 954_675 (lit≤ tt) tt
 
@@ -218,7 +218,7 @@ entries : (entriesOf station (asJudged winterDay) ≡ winterEntries 954_675) × 
 unfolding asJudged entriesOf curveAt rounded arcSum arcSums sinSum bellSums expSum sumTo more
 entries = (ap winterEntries (sym pressure), ap summerEntries (sym pressure))
 
-roots : (sheet.r (sheet.e (pos 320)) ≡ pos 78_213_060) × (sheet.r (sheet.e (pos 500)) ≡ pos 110_868_765) × (sheet.r (sheet.e (pos 550)) ≡ pos 121_538_811)
+pub roots : (sheet.r (sheet.e (pos 320)) ≡ pos 78_213_060) × (sheet.r (sheet.e (pos 500)) ≡ pos 110_868_765) × (sheet.r (sheet.e (pos 550)) ≡ pos 121_538_811)
 unfolding sheet.U sheet.V2 sheet.V4 sheet.V8 sheet.e
 roots = (
   root-at (pos 320) 6_117_282_850_000_000 78_213_060 refl (record { low = lit≤ tt; high = lit< tt }),

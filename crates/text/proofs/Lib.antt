@@ -11,3 +11,4 @@ pub mod Sizes
 pub mod LongEnough
 pub mod Totals
 pub mod WorkedReport
+pub mod WorkedMonths

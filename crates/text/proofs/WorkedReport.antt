@@ -30,7 +30,7 @@ use Rattle.text.proofs.InTurn.{linesInTurn, lines-in-turn}
 use Rattle.lines.specs.Text.{totals, monthLine, seasonLine, newline, leading, digits, padded, inches, verdictText, header, dayLine, cropLine, refusedLine}
 
 -- the months of a log's answers are in date order
-in-turn : (s : List ℕ) {answers : List Answer} → answersTo s ≡ answers → header ++ linesOf answers ≡ header ++ linesInTurn answers
+pub in-turn : (s : List ℕ) {answers : List Answer} → answersTo s ≡ answers → header ++ linesOf answers ≡ header ++ linesInTurn answers
 in-turn s {answers} e = ap (λ (l : List ℕ). header ++ l) (lines-in-turn answers (subst Ordered e (answers-ordered s)))
 
 -- `STN YEAR DAY ET`, `LIDW 2008 010 R7`, `LIDW 2008 011 R7`, `LIDW 2008 012 0.0000`, `LIDW 2008 01 1 0.0000`, `LIDW ALL 1 0.0000`
@@ -60,22 +60,25 @@ pub empty : wholeReport [] ≡ header
 unfolding wholeReport reportOf outcomeOf readingOf readFrom recordAt
 empty = refl
 
--- the line of a day of LIDW in 2008: its day and what is said of it; `R7`
-abbrev lidw : List ℕ → List ℕ → List ℕ
-lidw d says = 76 ∷ 73 ∷ 68 ∷ 87 ∷ 32 ∷ 50 ∷ 48 ∷ 48 ∷ 56 ∷ 32 ∷ (d ++ 32 ∷ (says ++ newline ∷ []))
+-- the line of a day of LIDW in a year of the last digit `y`, and in 2008: its day and what is said of it; `R7`
+abbrev pub lidwIn : ℕ → List ℕ → List ℕ → List ℕ
+lidwIn y d says = 76 ∷ 73 ∷ 68 ∷ 87 ∷ 32 ∷ 50 ∷ 48 ∷ 48 ∷ y ∷ 32 ∷ (d ++ 32 ∷ (says ++ newline ∷ []))
 
-abbrev missing : List ℕ
+abbrev pub lidw : List ℕ → List ℕ → List ℕ
+lidw = lidwIn 56
+
+abbrev pub missing : List ℕ
 missing = 82 ∷ 55 ∷ []
 
 -- the line of a month of LIDW in 2008, with the days answered and their sum, and the season line
-abbrev lidwMonth : List ℕ → List ℕ → List ℕ → List ℕ
+abbrev pub lidwMonth : List ℕ → List ℕ → List ℕ → List ℕ
 lidwMonth month days sum = lidw month (days ++ 32 ∷ sum)
 
-abbrev lidwSeason : List ℕ → List ℕ → List ℕ
+abbrev pub lidwSeason : List ℕ → List ℕ → List ℕ
 lidwSeason days sum = 76 ∷ 73 ∷ 68 ∷ 87 ∷ 32 ∷ 65 ∷ 76 ∷ 76 ∷ 32 ∷ (days ++ 32 ∷ (sum ++ newline ∷ []))
 
 -- the report of some answers, in a buffer of the length that they need
-abbrev told : List Answer → List ℕ
+abbrev pub told : List Answer → List ℕ
 told answers = let n = length (bytesOf answers) in textOf (cond (ltb n n) (outcome.Refused 12 n) (outcome.Written n)) answers
 
 -- `LIDW 2008 178 R7`, `LIDW 2008 179 R7`, `LIDW 2008 180 0.3518`, `BEAN 0.1319`; and the second block without a crop, its last day `0.3356`
