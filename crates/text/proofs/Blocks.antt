@@ -1,5 +1,5 @@
--- What the answers of a log print, one after another: the first answer's line, and then what those behind it print (`prints`, `prints-size`); and how a
--- block's answers stand and are ordered from one to the next (`Within`, `next-within`). Assumes nothing.
+-- What the answers of a log print, one after another: the first answer's line, and then what those behind it print (`prints`); and how a block's
+-- answers stand and are ordered from one to the next (`Within`, `next-within`). Assumes nothing.
 use mathlib.Core.Path.{_≡_, refl, sym, ap, _∙_, subst}
 use mathlib.Core.List.{List, [], _∷_, _++_, append-assoc, append-nil}
 use Prim.Native.Nat.{ℕ, _+_}
@@ -34,11 +34,6 @@ prints NoBlock seen (answer.Crop code n) next l = refl
 prints (In b) seen (answer.Station code) next l = ap (λ (block : List Answer). aboutBlock (b .code) block ++ linesOf (answer.Station code ∷ l)) (append-nil seen)
 prints (In b) seen (answer.Day year d verdict) next l = behind b seen (answer.Day year d verdict) l (dayLine (b .code) year d verdict)
 prints (In b) seen (answer.Crop code n) next l = behind b seen (answer.Crop code n) l (cropLine code n)
-
-pub prints-size : (block : Open) (seen : List Answer) (a : Answer) (next : ℕ) (l : List Answer)
-    → length (linesFrom block seen (a ∷ l)) ≡ length (printed block seen a) + length (linesFrom (openAfter block a next) (seenAfter seen a) l)
-prints-size block seen a next l =
-    ap length (prints block seen a next l) ∙ length-append (printed block seen a) (linesFrom (openAfter block a next) (seenAfter seen a) l)
 
 -- behind the last answer
 pub prints-last : (block : Open) (seen : List Answer) → linesFrom block seen [] ≡ aboutOpen block seen

@@ -1,7 +1,7 @@
--- How long a report can be: no day's line is longer than 23 bytes (`line-most`), no crop's than 13 (`crop-most`), and no report than 138,688
--- (`report-most`). The theorem is `long-enough`. Assumes nothing.
-use mathlib.Core.Path.{_≡_, refl, ap}
-use mathlib.Core.Bool.{true, false, not}
+-- How long a report can be: no day's line is longer than 23 bytes (`line-most`), no crop's than 13 (`crop-most`), and no report than 223,457
+-- (`report-most`); and how large a total (`totals-most`). The theorem is `long-enough`. Assumes nothing.
+use mathlib.Core.Path.{_≡_, refl, sym, ap, subst}
+use mathlib.Core.Bool.{Bool, true, false, not}
 use mathlib.Core.List.{List, [], _∷_, _++_}
 use Prim.Native.Nat.{ℕ, _+_, _*_, _≤_, _<_}
 use native.Mathlib.Omega.{arith}
@@ -9,6 +9,7 @@ use lib.Dec.{ltb}
 use lib.ListN.{length, length-append}
 use borrow.Author.Tests.{ltb-false}
 use Rattle.answers.specs.declared.Answer.{Answer}
+use Rattle.answers.specs.declared.Answer.the-variants as answer
 use Rattle.crops.specs.Crop.{badCrop, inSeason, cropFigure}
 use Rattle.crops.specs.declared.Crop.{Crop}
 use Rattle.crops.proofs.CropFigure.{twice-most}
@@ -39,10 +40,12 @@ use Rattle.log.proofs.Counted.{stationsOf, daysOf, figuresOf}
 use Rattle.log.proofs.Longest.{answers-most, lines-room}
 use Rattle.log.proofs.OutcomeSize.{Small, outcome-small, outcome-alike}
 use Rattle.log.proofs.Stations.{Sound, SoundEntries, sound-reading, station-constants}
-use Rattle.text.specs.Report.{linesOf, textOf, reportOf, wholeReport, AreBytes, LongEnough}
+use Rattle.totals.specs.Totals.{totalOf}
+use Rattle.text.specs.Totals.{BlockOf}
+use Rattle.text.specs.Report.{own, linesOf, textOf, reportOf, wholeReport, AreBytes, LongEnough}
 use Rattle.text.specs.Walk.{longestReport}
 use Rattle.text.proofs.DateOrder.{answers-ordered}
-use Rattle.text.proofs.Sizes.{daysIn, weight, AllSmall, lines-most}
+use Rattle.text.proofs.Sizes.{daysIn, weight, AllSmall, rest-small, rest-fewer, own-small, own-fewer, AtMost, total-most, lines-most}
 use Rattle.lines.specs.Text.{header, verdictText, dayLine, cropLine}
 use Rattle.lines.proofs.Digits.{padded-most, inches-most}
 use Rattle.lines.proofs.Lengths.{refusal-most, estimate-size, day-line-size, crop-line-size, refused-line-most}
@@ -171,6 +174,25 @@ module _ (s : List ℕ) (bytes : AreBytes s) where
         all-counts es .1,
         room .0,
       )
+
+  -- no total of a block, of a month or of the season, has more than 3,853 days, nor more than 308,240,000 ten-thousandths of an inch
+  pub totals-most : length s ≤ longest → (chosen : ℕ → ℕ → Bool) {code : Code} {answers : List Answer} → BlockOf s code answers
+      → let t = totalOf chosen answers in (t .days ≤ 3_853) × (t .sum ≤ 308_240_000)
+  totals-most short chosen {code} b =
+      let es = entriesOf (readingOf s) in
+      let small = rest-small (b .before) (answer.Station code ∷ b .rest) (subst AllSmall (b .stands) (all-small es (sound-reading s))) in
+      let t = subst (λ (l : List Answer). AtMost (daysIn l) (totalOf chosen l)) (sym (b .its)) (total-most chosen (own (b .rest)) (own-small (b .rest) (small .1))) in
+      let few : daysIn (own (b .rest)) ≤ 3_853 =
+      omega (
+        arith,
+        own-fewer (b .rest),
+        rest-fewer (b .before) (answer.Station code ∷ b .rest),
+        ap daysIn (b .stands),
+        all-counts es .0,
+        lines-room s short .1,
+      ) in
+      let own-days = ap daysIn (b .its) in
+      (omega (arith, t .0, few, own-days), omega (arith, t .0, t .1, few, own-days))
 
   refused-short : (number value : ℕ) → Small (outcome.Refused number value) → Short (outcome.Refused number value)
   refused-short number value small =

@@ -1,6 +1,6 @@
 -- How long the lines of some answers are, by their number: 45 bytes for a day, 13 for a crop figure and 25 for a station at most (`lines-most`), where
 -- no day's own line has more than 23 and no crop's more than 13 (`AllSmall`). A month's line has no more than 22 for each of its days, so that it
--- counts for them; and no block's totals are larger than those of all the days, each with the largest figure (`totals-most`). Assumes nothing.
+-- counts for them. A block's totals are no larger than those of its days, each with the largest figure (`total-most`). Assumes nothing.
 use mathlib.Core.Path.{_≡_, ap}
 use mathlib.Core.Bool.{Bool, true, false, cond}
 use mathlib.Core.List.{List, [], _∷_, _++_}
@@ -52,13 +52,23 @@ abbrev pub AllSmall : List Answer → Type 0
 AllSmall [] = Unit {0}
 AllSmall (a ∷ rest) = Small a × AllSmall rest
 
-own-small : (l : List Answer) → AllSmall l → AllSmall (own l)
+pub rest-small : (before rest : List Answer) → AllSmall (before ++ rest) → AllSmall rest
+rest-small [] rest h = h
+rest-small (a ∷ before) rest h = rest-small before rest (h .1)
+
+pub rest-fewer : (before rest : List Answer) → daysIn rest ≤ daysIn (before ++ rest)
+rest-fewer [] rest = omega arith
+rest-fewer (answer.Station code ∷ before) rest = rest-fewer before rest
+rest-fewer (answer.Day year d v ∷ before) rest = omega (arith, rest-fewer before rest)
+rest-fewer (answer.Crop code n ∷ before) rest = rest-fewer before rest
+
+pub own-small : (l : List Answer) → AllSmall l → AllSmall (own l)
 own-small [] h = tt
 own-small (answer.Station code ∷ rest) h = tt
 own-small (answer.Day year d v ∷ rest) h = (h .0, own-small rest (h .1))
 own-small (answer.Crop code n ∷ rest) h = (h .0, own-small rest (h .1))
 
-own-fewer : (l : List Answer) → daysIn (own l) ≤ daysIn l
+pub own-fewer : (l : List Answer) → daysIn (own l) ≤ daysIn l
 own-fewer [] = omega arith
 own-fewer (answer.Station code ∷ rest) = omega arith
 own-fewer (answer.Day year d v ∷ rest) = omega (arith, own-fewer rest)
@@ -78,7 +88,7 @@ with-one false n small t h = (omega (arith, h .0), omega (arith, h .1))
 with-none : {k : ℕ} (t : Total) → AtMost k t → AtMost k (plus none t)
 with-none t h = (omega (arith, h .0), omega (arith, h .1))
 
-total-most : (chosen : ℕ → ℕ → Bool) (l : List Answer) → AllSmall l → AtMost (daysIn l) (totalOf chosen l)
+pub total-most : (chosen : ℕ → ℕ → Bool) (l : List Answer) → AllSmall l → AtMost (daysIn l) (totalOf chosen l)
 total-most chosen [] h = (omega arith, omega arith)
 total-most chosen (answer.Station code ∷ rest) h = with-none (totalOf chosen rest) (total-most chosen rest (h .1))
 total-most chosen (answer.Day year d (Figure n) ∷ rest) h =

@@ -21,7 +21,7 @@ use Rattle.totals.specs.declared.tally.Counted.the-variants.{Day}
 use Rattle.totals.proofs.Calendar.{in-one-month}
 use Rattle.totals.proofs.Shares.{season-is-months, same-month, other-month}
 use Rattle.text.specs.Report.{answerLines, aboutBlock, own, linesOf}
-use Rattle.text.specs.Totals.{BlockOf, AnsweredIn, CountsOnce, BlockTotals, TotalsOwed}
+use Rattle.text.specs.Totals.{BlockOf, AnsweredIn, CountsOnce, TotalsOwed}
 use Rattle.text.specs.Walk.{Ordered}
 use Rattle.text.proofs.DateOrder.{answers-ordered, date-listed}
 

@@ -1,6 +1,6 @@
 -- The walk over a log's answers that has come to an index: its text (`Going`), and what the open block has had. What the next answer makes of it
 -- (`one-walked`), the room that there is for its line (`line-room`), and the end (`end-room`, `all-walked`). Assumes nothing.
-use mathlib.Core.Path.{_≡_, refl, sym, subst}
+use mathlib.Core.Path.{_≡_, sym, subst}
 use mathlib.Core.Bool.{Bool, true}
 use mathlib.Core.List.{List, [], _∷_}
 use Prim.Native.Nat.{ℕ, _+_, _≤_, _<_}

@@ -3,6 +3,7 @@
 -- answered, so it has a season line and no month's. Assumes nothing.
 use mathlib.Core.Path.{_≡_, refl, sym, ap, _∙_}
 use mathlib.Core.List.{List, [], _∷_, _++_}
+use mathlib.Core.Logic.{inl}
 use Prim.Native.Nat.{ℕ}
 use lib.IntN.{ℤ, pos, negsuc}
 use Rattle.tables.specs.Values.{sumTo, more, expSum, sinSum, rounded, curveAt, arcSum, arcSums, bellSums, first}
@@ -17,6 +18,7 @@ use Rattle.day.specs.declared.Refusal.the-variants.{Missing}
 use Rattle.day.specs.declared.Verdict.the-variants.{Figure, Refused, Estimated}
 use Rattle.day.proofs.Examples.{Worked, worked, station, constants, pressure, roots}
 use Rattle.answers.specs.Answers.{dayAnswer}
+use Rattle.answers.specs.declared.Answer.{Answer}
 use Rattle.answers.specs.declared.Answer.the-variants as answer
 use Rattle.records.specs.Bytes.{wordAt, signedOf, signedAt}
 use Rattle.records.specs.Record.{stationAt, dayAt, recordAt}
@@ -27,6 +29,8 @@ use Rattle.log.proofs.Sample.{windless, noMean, oneMean}
 use Rattle.lines.specs.Text.{totals, monthLine, seasonLine, leading, digits, padded, inches, verdictText, header, dayLine}
 use Rattle.totals.specs.Months.{daysBy, monthOf}
 use Rattle.text.specs.Report.{reportOf, wholeReport}
+use Rattle.text.specs.Totals.{BlockOf, CountsOnce, TotalsOwed}
+use Rattle.text.proofs.Totals.{totals-owed}
 use Rattle.text.proofs.WorkedReport.{in-turn, lidwIn, lidw, missing, lidwMonth, lidwSeason, told}
 
 -- ---- the days
@@ -134,3 +138,27 @@ pub with-months : wholeReport monthsLog ≡
     ++ lidwSeason (48 ∷ []) (48 ∷ 46 ∷ 48 ∷ 48 ∷ 48 ∷ 48 ∷ [])
 unfolding wholeReport reportOf outcomeOf readingOf readFrom recordAt stationAt dayAt wordAt signedOf signedAt dayLine padded verdictText inches digits leading monthLine seasonLine totals monthOf first daysBy yearLength
 with-months = (λ i. told (worked-months i)) ∙ in-turn monthsLog worked-months
+
+-- ---- what is owed of its totals
+
+-- the first block, and 29 February in it: every hypothesis of `totals-owed` is met
+abbrev february : List Answer
+february = answer.Day 2007 365 (Figure 298) ∷ answer.Day 2008 1 (Figure 173) ∷ answer.Day 2008 32 (Refused Missing) ∷ answer.Day 2008 59 (Figure 535) ∷ []
+
+abbrev march : List Answer
+march = answer.Day 2008 61 (Estimated 519) ∷ []
+
+pub first-block : BlockOf monthsLog (stationAt monthsLog 1 .code) (february ++ answer.Day 2008 60 (Figure 523) ∷ march)
+first-block =
+    record {
+      before = [];
+      rest = february ++ answer.Day 2008 60 (Figure 523) ∷ (march ++ answer.Station (stationAt monthsLog 1 .code) ∷ answer.Day 2008 92 (Refused Missing) ∷ []);
+      stands = worked-months;
+      its = refl;
+    }
+
+pub leap-day : CountsOnce 2008 60 (Figure 523) 523
+unfolding TotalsOwed
+leap-day =
+    totals-owed monthsLog (stationAt monthsLog 1 .code) (february ++ answer.Day 2008 60 (Figure 523) ∷ march) first-block .once 2008 60 (Figure 523) 523
+    (record { before = february; rest = march; stands = refl; kind = inl refl })

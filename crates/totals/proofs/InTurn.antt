@@ -1,7 +1,7 @@
 -- A block's answers gone through in date order. What is said of each month when it ends, and of the season behind the last answer, is what is said of
 -- every month of the calendar in date order, and then of the season (`said-in-turn`), where nothing is said of a month without a day.
 -- Assumes nothing.
-use mathlib.Core.Path.{_≡_, refl, sym, ap, ap₂, _∙_, subst}
+use mathlib.Core.Path.{_≡_, refl, sym, ap, ap₂, _∙_}
 use mathlib.Core.Bool.{Bool, true, false, not, cond}
 use mathlib.Core.List.{List, [], _∷_, _++_, append-assoc, append-nil}
 use Prim.Native.Nat.{ℕ, zero, suc, _≤_, _<_}
@@ -9,13 +9,13 @@ use native.Mathlib.Decide.{ℕ-discrete}
 use native.Mathlib.Omega.{arith}
 use Rattle.answers.specs.declared.Answer.{Answer}
 use Rattle.totals.specs.Months.{yearAt, monthAt, months, monthNumber}
-use Rattle.totals.specs.Tally.{begun, begins, soFar, after, ended, said, Comes, reached, InMonthOrder}
+use Rattle.totals.specs.Tally.{begun, soFar, after, ended, said, Comes, reached, InMonthOrder}
 use Rattle.totals.specs.Totals.{none, one, plus, countedOf, shareOf, totalOf, isMonth, monthTotal, seasonTotal, eachMonth}
 use Rattle.totals.specs.declared.tally.Counted.{Counted}
 use Rattle.totals.specs.declared.tally.Counted.the-variants.{Nothing, Day}
 use Rattle.totals.specs.declared.tally.Tally.{Tally}
 use Rattle.totals.specs.declared.tally.Total.{Total}
-use Rattle.totals.proofs.Shares.{plus-none, none-plus, one-more, shareAt, is-month, not-month, its-month, no-other}
+use Rattle.totals.proofs.Shares.{plus-none, one-more, is-month, not-month, its-month, no-other}
 
 abbrev totalAt : List Answer → ℕ → Total
 totalAt answers k = monthTotal answers (yearAt k) (monthAt k)

@@ -1,13 +1,12 @@
 -- `text::season::put_ended` meets its contract. Assumes nothing.
 use mathlib.Core.Bool.{Bool, cond}
 use mathlib.Core.List.{List, []}
-use mathlib.Core.Path.{_≡_, sym, _∙_, subst}
+use mathlib.Core.Path.{sym, _∙_, subst}
 use Prim.Native.Nat.{ℕ}
 use borrow.Author.Needs.{needs}
 use denote.Ref.{now}
 use Rattle.text.specs.Report.{monthText}
 use Rattle.text.specs.Walk.{Room, Laid}
-use Rattle.totals.specs.Tally.{begins}
 use Rattle.text.proofs.Laid.{laid-none}
 use Rattle.text.proofs.season.put_ended.Statement.{statement}
 use Rattle.text.proofs.season.put_ended.Tie as tie

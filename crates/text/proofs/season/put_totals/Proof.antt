@@ -1,7 +1,7 @@
 -- `text::season::put_totals` meets its contract. The invariant is `Going`, where each answer prints the month that ends before it; the measure is what is
 -- left of the block's bytes. Assumes nothing.
 use mathlib.Core.Path.{_≡_, refl, sym, ap, _∙_, subst}
-use mathlib.Core.List.{List, [], _∷_, _++_}
+use mathlib.Core.List.{List, _∷_, _++_}
 use Prim.Native.Nat.{ℕ, _+_, _-_, _≤_}
 use native.Mathlib.Omega.{arith}
 use lib.ListN.{length, length-append}
@@ -9,13 +9,11 @@ use denote.Ref.{now}
 use borrow.Author.Needs.{needs}
 use Rattle.answers.specs.Answers.{answerBytes}
 use Rattle.answers.specs.declared.Answer.{Answer}
-use Rattle.day.specs.declared.Code.{Code}
 use Rattle.log.specs.Log.{longestAnswers}
-use Rattle.totals.specs.Tally.{begun, after, ended, said, Within, InMonthOrder}
-use Rattle.totals.specs.Totals.{countedOf}
+use Rattle.totals.specs.Tally.{begun, after, ended, Within}
 use Rattle.totals.specs.declared.tally.Counted.{Counted}
 use Rattle.totals.specs.declared.tally.Tally.{Tally}
-use Rattle.text.specs.Report.{monthText, seasonText, aboutBlock}
+use Rattle.text.specs.Report.{monthText, seasonText}
 use Rattle.text.specs.Walk.{Holds, Room, Laid}
 use Rattle.text.proofs.Going.{some-bytes, Going, none-gone, stands-there, inside, room, one-more, room-last, all-laid}
 use Rattle.text.proofs.InTurn.{told, about-in-turn}
