@@ -1,5 +1,5 @@
 -- What the answers of a log print, one after another: the first answer's line, and then what those behind it print (`prints`); and how a block's
--- answers stand and are ordered from one to the next (`Within`, `next-within`). Assumes nothing.
+-- answers stand and are ordered from one to the next (`InBlock`, `next-in-block`). Assumes nothing.
 use mathlib.Core.Path.{_≡_, refl, sym, ap, _∙_, subst}
 use mathlib.Core.List.{List, [], _∷_, _++_, append-assoc, append-nil}
 use Prim.Native.Nat.{ℕ, _+_}
@@ -43,15 +43,15 @@ prints-last (In b) seen = append-nil (aboutBlock (b .code) (seen ++ [])) ∙ ap 
 -- ---- the block that is open
 
 -- what it has had up to the index `at`, and that it is in date order with what it has yet to have, of the answers `left`
-abbrev pub Within : List ℕ → ℕ → Open → List Answer → List Answer → Type 0
-Within s at NoBlock seen left = Unit {0}
-Within s at (In b) seen left = Holds s (b .from) at seen × InMonthOrder 0 (seen ++ own left)
+abbrev pub InBlock : List ℕ → ℕ → Open → List Answer → List Answer → Type 0
+InBlock s at NoBlock seen left = Unit {0}
+InBlock s at (In b) seen left = Holds s (b .from) at seen × InMonthOrder 0 (seen ++ own left)
 
 front-ordered : (k : ℕ) (l rest : List Answer) → InMonthOrder k (l ++ rest) → InMonthOrder k l
 front-ordered k [] rest h = tt
 front-ordered k (a ∷ l) rest h = (h .0, front-ordered _ l rest (h .1))
 
-pub block-stands : (s : List ℕ) (at : ℕ) (block : Open) (seen left : List Answer) → Within s at block seen left → Stands s at block seen
+pub block-stands : (s : List ℕ) (at : ℕ) (block : Open) (seen left : List Answer) → InBlock s at block seen left → Stands s at block seen
 block-stands s at NoBlock seen left w = tt
 block-stands s at (In b) seen left w = (w .0, front-ordered 0 seen (own left) (w .1))
 
@@ -70,13 +70,13 @@ held-more {s} {from} {at} {seen} a h there =
     both : bytesOf (seen ++ a ∷ []) ≡ bytesOf seen ++ answerBytes a
     both = bytes-append seen (a ∷ []) ∙ ap (λ (l : List ℕ). bytesOf seen ++ l) (append-nil (answerBytes a))
 
-pub next-within : (s : List ℕ) (at : ℕ) (block : Open) (seen : List Answer) (a : Answer) (left : List Answer) → StandsAt s at a → Ordered (a ∷ left)
-    → Within s at block seen (a ∷ left) → Within s (at + length (answerBytes a)) (openAfter block a (at + length (answerBytes a))) (seenAfter seen a) left
-next-within s at block seen (answer.Station code) left there ordered w =
+pub next-in-block : (s : List ℕ) (at : ℕ) (block : Open) (seen : List Answer) (a : Answer) (left : List Answer) → StandsAt s at a → Ordered (a ∷ left)
+    → InBlock s at block seen (a ∷ left) → InBlock s (at + length (answerBytes a)) (openAfter block a (at + length (answerBytes a))) (seenAfter seen a) left
+next-in-block s at block seen (answer.Station code) left there ordered w =
     (record { size = omega arith; rest = drop (at + 5) s; bytes = refl }, ordered .0)
-next-within s at NoBlock seen (answer.Day year d verdict) left there ordered w = tt
-next-within s at NoBlock seen (answer.Crop code n) left there ordered w = tt
-next-within s at (In b) seen (answer.Day year d verdict) left there ordered w =
+next-in-block s at NoBlock seen (answer.Day year d verdict) left there ordered w = tt
+next-in-block s at NoBlock seen (answer.Crop code n) left there ordered w = tt
+next-in-block s at (In b) seen (answer.Day year d verdict) left there ordered w =
     (held-more (answer.Day year d verdict) (w .0) there, subst (InMonthOrder 0) (sym (append-assoc seen (answer.Day year d verdict ∷ []) (own left))) (w .1))
-next-within s at (In b) seen (answer.Crop code n) left there ordered w =
+next-in-block s at (In b) seen (answer.Crop code n) left there ordered w =
     (held-more (answer.Crop code n) (w .0) there, subst (InMonthOrder 0) (sym (append-assoc seen (answer.Crop code n ∷ []) (own left))) (w .1))

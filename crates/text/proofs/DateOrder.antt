@@ -25,15 +25,15 @@ abbrev monthAfter : ℕ → ℕ → ℕ
 monthAfter year d = monthNumber year (monthOf year d)
 
 -- no date behind the day of the number `last` is in an earlier month than the one of number k
-Behind : ℕ → ℕ → Type 0
-Behind k last = (year d : ℕ) → Next last year d → k ≤ monthAfter year d
+NotBefore : ℕ → ℕ → Type 0
+NotBefore k last = (year d : ℕ) → Next last year d → k ≤ monthAfter year d
 
-from-the-first : Behind 0 0
-unfolding Behind
+from-the-first : NotBefore 0 0
+unfolding NotBefore
 from-the-first year d n = omega arith
 
-from-a-date : (year d : ℕ) → isDate year d ≡ true → Behind (monthAfter year d) (dayNumber year d)
-unfolding Behind
+from-a-date : (year d : ℕ) → isDate year d ≡ true → NotBefore (monthAfter year d) (dayNumber year d)
+unfolding NotBefore
 from-a-date year d date year' d' n =
     ⊎-elim (λ (later : year < year'). omega (arith, later, date-tells year d date, month-range year d date, month-range year' d' (n .0)))
     (λ (same : (year ≡ year') × (d < d')).
@@ -48,12 +48,12 @@ date-listed year d date =
     let month = month-range year d date in
     (omega (arith, told, month), omega (arith, told, month), omega (arith, told, month))
 
-comes : (k last year d n : ℕ) → Behind k last → Next last year d → Comes k (Day year (monthOf year d) n)
-unfolding Behind
+comes : (k last year d n : ℕ) → NotBefore k last → Next last year d → Comes k (Day year (monthOf year d) n)
+unfolding NotBefore
 comes k last year d n behind next =
     let listed = date-listed year d (next .0) in (listed .0, listed .1, behind year d next, listed .2)
 
-own-ordered : (k last : ℕ) (l : List Answer) → Behind k last → InDateOrder last l → InMonthOrder k (own l)
+own-ordered : (k last : ℕ) (l : List Answer) → NotBefore k last → InDateOrder last l → InMonthOrder k (own l)
 own-ordered k last [] b h = tt
 own-ordered k last (answer.Station code ∷ rest) b h = tt
 own-ordered k last (answer.Day year d (Figure n) ∷ rest) b h =

@@ -45,7 +45,7 @@ use Rattle.text.specs.Totals.{BlockOf}
 use Rattle.text.specs.Report.{own, linesOf, textOf, reportOf, wholeReport, AreBytes, LongEnough}
 use Rattle.text.specs.Walk.{longestReport}
 use Rattle.text.proofs.DateOrder.{answers-ordered}
-use Rattle.text.proofs.Sizes.{daysIn, weight, AllSmall, rest-small, rest-fewer, own-small, own-fewer, AtMost, total-most, lines-most}
+use Rattle.text.proofs.Sizes.{daysIn, weight, AllSmall, rest-small, rest-fewer, own-small, own-fewer, Bounded, total-most, lines-most}
 use Rattle.lines.specs.Text.{header, verdictText, dayLine, cropLine}
 use Rattle.lines.proofs.Digits.{padded-most, inches-most}
 use Rattle.lines.proofs.Lengths.{refusal-most, estimate-size, day-line-size, crop-line-size, refused-line-most}
@@ -181,7 +181,7 @@ module _ (s : List ℕ) (bytes : AreBytes s) where
   totals-most short chosen {code} b =
       let es = entriesOf (readingOf s) in
       let small = rest-small (b .before) (answer.Station code ∷ b .rest) (subst AllSmall (b .stands) (all-small es (sound-reading s))) in
-      let t = subst (λ (l : List Answer). AtMost (daysIn l) (totalOf chosen l)) (sym (b .its)) (total-most chosen (own (b .rest)) (own-small (b .rest) (small .1))) in
+      let t = subst (λ (l : List Answer). Bounded (daysIn l) (totalOf chosen l)) (sym (b .its)) (total-most chosen (own (b .rest)) (own-small (b .rest) (small .1))) in
       let few : daysIn (own (b .rest)) ≤ 3_853 =
       omega (
         arith,

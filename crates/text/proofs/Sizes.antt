@@ -77,18 +77,18 @@ own-fewer (answer.Crop code n ∷ rest) = own-fewer rest
 -- ---- totals
 
 -- so many days at most, none with a figure above the largest
-abbrev pub AtMost : ℕ → Total → Type 0
-AtMost days t = (t .days ≤ days) × (t .sum ≤ mostFigure * t .days)
+abbrev pub Bounded : ℕ → Total → Type 0
+Bounded days t = (t .days ≤ days) × (t .sum ≤ mostFigure * t .days)
 
 -- an answer adds a day at most
-with-one : (b : Bool) (n : ℕ) → n ≤ mostFigure → {k : ℕ} (t : Total) → AtMost k t → AtMost (1 + k) (plus (cond b (one n) none) t)
+with-one : (b : Bool) (n : ℕ) → n ≤ mostFigure → {k : ℕ} (t : Total) → Bounded k t → Bounded (1 + k) (plus (cond b (one n) none) t)
 with-one true n small t h = (omega (arith, h .0), omega (arith, h .1, small))
 with-one false n small t h = (omega (arith, h .0), omega (arith, h .1))
 
-with-none : {k : ℕ} (t : Total) → AtMost k t → AtMost k (plus none t)
+with-none : {k : ℕ} (t : Total) → Bounded k t → Bounded k (plus none t)
 with-none t h = (omega (arith, h .0), omega (arith, h .1))
 
-pub total-most : (chosen : ℕ → ℕ → Bool) (l : List Answer) → AllSmall l → AtMost (daysIn l) (totalOf chosen l)
+pub total-most : (chosen : ℕ → ℕ → Bool) (l : List Answer) → AllSmall l → Bounded (daysIn l) (totalOf chosen l)
 total-most chosen [] h = (omega arith, omega arith)
 total-most chosen (answer.Station code ∷ rest) h = with-none (totalOf chosen rest) (total-most chosen rest (h .1))
 total-most chosen (answer.Day year d (Figure n) ∷ rest) h =
@@ -110,7 +110,7 @@ module _ (code : Code) where
   answers-most (answer.Crop crop n ∷ rest) h = omega (arith, answers-most rest (h .1), h .0, length-append (cropLine crop n) (answerLines code rest))
 
   -- a month without a day, of one, and of more
-  month-most : (k : ℕ) → k < months → (t : Total) → AtMost mostDays t → length (monthText code (yearAt k) (monthAt k) t) ≤ 22 * t .days
+  month-most : (k : ℕ) → k < months → (t : Total) → Bounded mostDays t → length (monthText code (yearAt k) (monthAt k) t) ≤ 22 * t .days
   month-most k inside t h =
       by-cond (λ (l : List ℕ). length l ≤ 22 * t .days) (eqb (t .days) 0) (λ e. omega arith)
       (λ e.
@@ -124,7 +124,7 @@ module _ (code : Code) where
       omega (arith, line, more))
       (eq-zero-or-pos (t .days - 1)))
 
-  months-most : (total : ℕ → ℕ → Total) → ((k : ℕ) → AtMost mostDays (total (yearAt k) (monthAt k))) → (k : ℕ) → k ≤ months
+  months-most : (total : ℕ → ℕ → Total) → ((k : ℕ) → Bounded mostDays (total (yearAt k) (monthAt k))) → (k : ℕ) → k ≤ months
       → length (eachMonth (monthText code) total k) ≤ 22 * together total k .days
   unfolding eachMonth together
   months-most total small zero h = omega arith

@@ -13,13 +13,13 @@ use Rattle.text.specs.Report.{linesOf}
 use Rattle.text.specs.Walk.{Holds, Ordered, Room, Laid, Stands, openAfter, seenAfter, aboutOpen, printed, linesFrom}
 use Rattle.text.specs.declared.walk.Open.{Open}
 use Rattle.text.specs.declared.walk.Open.the-variants.{NoBlock}
-use Rattle.text.proofs.Blocks.{prints, prints-last, Within, block-stands, next-within}
+use Rattle.text.proofs.Blocks.{prints, prints-last, InBlock, block-stands, next-in-block}
 use Rattle.text.proofs.Going.{Going, none-gone, stands-as, room, one-more, room-last, all-laid}
 
 pub record Walked (s : List ℕ) (n : ℕ) (writes : Bool) (before : List ℕ) (start : ℕ) (text : List ℕ) (at to : ℕ) (block : Open) (all : List Answer) : Type 0 where
   pub seen : List Answer
   pub going : Going s n writes before start text at to (linesFrom block seen) (linesOf all)
-  pub within : Within s at block seen (going .left)
+  pub in-block : InBlock s at block seen (going .left)
   pub ordered : Ordered (going .left)
 
 still-ordered : (a : Answer) (l : List Answer) → Ordered (a ∷ l) → Ordered l
@@ -30,11 +30,11 @@ still-ordered (answer.Crop code n) l h = h
 module _ {s : List ℕ} {n : ℕ} {writes : Bool} {before : List ℕ} {start : ℕ} {all : List Answer} where
   pub none-walked : Holds s 0 n all → Ordered all → Walked s n writes before start before 0 start NoBlock all
   unfolding none-gone
-  none-walked h ordered = record { seen = []; going = none-gone h; within = tt; ordered = ordered }
+  none-walked h ordered = record { seen = []; going = none-gone h; in-block = tt; ordered = ordered }
 
   module _ {text : List ℕ} {at to : ℕ} {block : Open} (w : Walked s n writes before start text at to block all) where
     pub stands : Stands s at block (w .seen)
-    stands = block-stands s at block (w .seen) (w .going .left) (w .within)
+    stands = block-stands s at block (w .seen) (w .going .left) (w .in-block)
 
     module _ (h : at < n) {r : Answer} (is : (b : Answer) → StandsAt s at b → r ≡ b) where
       abbrev next : ℕ
@@ -52,9 +52,9 @@ module _ {s : List ℕ} {n : ℕ} {writes : Bool} {before : List ℕ} {start : �
           record {
             seen = seenAfter (w .seen) r;
             going = more .0;
-            within =
-                next-within s at block (w .seen) r (more .0 .left) (stands-as (w .going) h is) ordered
-                (subst (Within s at block (w .seen)) (more .1) (w .within));
+            in-block =
+                next-in-block s at block (w .seen) r (more .0 .left) (stands-as (w .going) h is) ordered
+                (subst (InBlock s at block (w .seen)) (more .1) (w .in-block));
             ordered = still-ordered r (more .0 .left) ordered;
           }
 

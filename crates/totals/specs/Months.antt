@@ -5,7 +5,7 @@ use Prim.Native.Nat.{ℕ, zero, suc, _+_, _*_, _-_, _/_, _%_, _≤_, _<_}
 use lib.Dec.{ltb, leb}
 use lib.ListN.{getD}
 use Rattle.tables.specs.Values.{first}
-use Rattle.day.specs.Calendar.{firstYear, yearLength}
+use Rattle.day.specs.Calendar.{firstYear, lastYear, yearLength}
 
 -- "the days before each month as source document 000 lists them", and behind them the days of the year
 abbrev pub offsets : List ℕ
@@ -54,9 +54,9 @@ yearAt k = firstYear + k / 12
 abbrev pub monthAt : ℕ → ℕ
 monthAt k = k % 12 + 1
 
--- so many have the years 1950 to 2099
+-- the number of them all: 1,800
 abbrev pub months : ℕ
-months = 1800
+months = 12 * (lastYear - firstYear + 1)
 
 -- the number of month m of a year
 abbrev pub monthNumber : ℕ → ℕ → ℕ

@@ -71,5 +71,5 @@ abbrev pub Within : ℕ → Tally → Type 0
 Within days t = AtMost days (t .total) × AtMost days (t .season)
 
 -- far more days than any log has, and neither a number of days nor a sum has grown too large
-abbrev pub mostDays : ℕ
-mostDays = 1000000
+abbrev pub daysLimit : ℕ
+daysLimit = 1000000

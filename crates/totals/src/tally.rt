@@ -1,7 +1,7 @@
 // The totals while a block's answers are gone through in date order: the month that is open, and the season.
 ghost use mathlib.Core.Path.{_≡_};
 ghost use Prim.Native.Nat.{ℕ, _+_};
-ghost use Rattle.totals.specs.Tally.{begun, begins, soFar, after, mostDays, AtMost, Within};
+ghost use Rattle.totals.specs.Tally.{begun, begins, soFar, after, daysLimit, AtMost, Within};
 ghost use Rattle.totals.specs.Totals.{countedOf, one, plus, isMonth};
 use crate::months::month_of;
 use answers::Answer;
@@ -84,7 +84,7 @@ fn so_far(tally: Tally, year: u16, month: u16) -> Total
 
 // A total with a day more.
 fn with_day(total: Total, n: u32) -> Total
-    requires { ⌜ AtMost mostDays total ⌝ }
+    requires { ⌜ AtMost daysLimit total ⌝ }
     ensures { λ r. ⌜ r ≡ plus total (one n) ⌝ }
     ensures { λ r. ⌜ ((days : ℕ) → AtMost days total → AtMost (days + 1) r) ⌝ }
 {
@@ -96,7 +96,7 @@ fn with_day(total: Total, n: u32) -> Total
 
 // The totals with what is counted.
 pub fn tallied(tally: Tally, counted: Counted) -> Tally
-    requires { ⌜ Within mostDays tally ⌝ }
+    requires { ⌜ Within daysLimit tally ⌝ }
     ensures { λ r. ⌜ r ≡ after tally counted ⌝ }
     ensures { λ r. ⌜ ((days : ℕ) → Within days tally → Within (days + 1) r) ⌝ }
 {

@@ -4,7 +4,7 @@ use mathlib.Core.Path.{sym, ap, _∙_, subst}
 use Prim.Native.Nat.{ℕ}
 use native.Mathlib.Omega.{arith}
 use borrow.Author.Needs.{needs}
-use Rattle.totals.specs.Tally.{mostDays, AtMost}
+use Rattle.totals.specs.Tally.{daysLimit, AtMost}
 use Rattle.totals.specs.Totals.{none, one, plus, isMonth}
 use Rattle.totals.specs.declared.tally.Total.{Total}
 use Rattle.totals.proofs.tally.tallied.Statement.{statement}
@@ -20,7 +20,7 @@ with-day-requires c κs =
     let told = c .before .before in
     let s = told .before .before in
     let t = s .args .tally in
-    subst (AtMost mostDays) (sym (c .so-far .ensures)) (roomy mostDays (t .total) (isMonth (t .year) (t .month) _ _) (s .pre .0))
+    subst (AtMost daysLimit) (sym (c .so-far .ensures)) (roomy daysLimit (t .total) (isMonth (t .year) (t .month) _ _) (s .pre .0))
 
 returns : tie.Need-returns
 returns c =
