@@ -133,12 +133,14 @@ uint64_t fuortwem_read_log(const uint8_t *log, size_t log_length, uint8_t *answe
  *               year with at least four digits, the day of the year with at least three, and the inches or, for a day that is refused,
  *               R and the number, such as "R7"; behind the inches a space and an E where the minimum stood for a missing dew point, such as
  *               "LIDW 2008 180 0.3347 E"; after the line of a day with a crop figure, a line such as "BEAN 0.2814": the crop's letters and
- *               the inches; an empty log has the first line alone
+ *               the inches; behind the lines of a station's days a line for each month of a year with an answered day, in date order, such
+ *               as "LIDW 2008 02 3 0.1784": the code, the year, the month with two digits, the days answered and the sum of their
+ *               inches, and one for the season, such as "LIDW ALL 11 0.3901"; an empty log has the first line alone
  *   another     one line, "REFUSED", the number and the value, such as "REFUSED 2 53"; so too where the answer buffer is too short, such
  *               as "REFUSED 12 32"
  *
  * A call with a text length of 0 gives the length needed, for no report is empty. An answer buffer of 69,341 bytes and a text buffer of
- * 138,688 are enough for every log.
+ * 223,457 are enough for every log.
  *
  * Asked of the caller: what fuortwem_read_log asks for the log and the answers, and the same as for the answers for `text` and
  * `text_length`; no two of the three overlap. */
