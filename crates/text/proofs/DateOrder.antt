@@ -14,8 +14,8 @@ use Rattle.log.specs.History.{dayNumber}
 use Rattle.log.specs.Log.{answersTo}
 use Rattle.day.proofs.Dates.{date-tells}
 use Rattle.log.proofs.DateOrder.{in-date-order, by-number}
-use Rattle.totals.specs.Months.{monthOf, yearAt, monthAt, months, monthNumber}
-use Rattle.totals.specs.Tally.{Comes, InMonthOrder}
+use Rattle.totals.specs.Months.{monthOf, yearAt, monthAt, months}
+use Rattle.totals.specs.Tally.{monthNumber, Comes, InMonthOrder}
 use Rattle.totals.specs.declared.tally.Counted.the-variants.{Day}
 use Rattle.totals.proofs.Calendar.{month-range, months-ascend}
 use Rattle.text.specs.Report.{own}

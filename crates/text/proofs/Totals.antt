@@ -14,8 +14,8 @@ use Rattle.log.specs.DateOrder.{InDateOrder}
 use Rattle.log.specs.History.{dayNumber}
 use Rattle.log.specs.Log.{answersTo}
 use Rattle.log.proofs.DateOrder.{in-date-order}
-use Rattle.totals.specs.Months.{monthOf, monthNumber}
-use Rattle.totals.specs.Tally.{InMonthOrder}
+use Rattle.totals.specs.Months.{monthOf}
+use Rattle.totals.specs.Tally.{monthNumber, InMonthOrder}
 use Rattle.totals.specs.Totals.{none, one, countedOf, shareOf, isMonth}
 use Rattle.totals.specs.declared.tally.Counted.the-variants.{Day}
 use Rattle.totals.proofs.Calendar.{in-one-month}

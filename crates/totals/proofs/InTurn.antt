@@ -8,8 +8,8 @@ use Prim.Native.Nat.{ℕ, zero, suc, _≤_, _<_}
 use native.Mathlib.Decide.{ℕ-discrete}
 use native.Mathlib.Omega.{arith}
 use Rattle.answers.specs.declared.Answer.{Answer}
-use Rattle.totals.specs.Months.{yearAt, monthAt, months, monthNumber}
-use Rattle.totals.specs.Tally.{begun, soFar, after, ended, said, Comes, reached, InMonthOrder}
+use Rattle.totals.specs.Months.{yearAt, monthAt, months}
+use Rattle.totals.specs.Tally.{begun, soFar, after, ended, said, monthNumber, Comes, reached, InMonthOrder}
 use Rattle.totals.specs.Totals.{none, one, plus, countedOf, shareOf, totalOf, isMonth, monthTotal, seasonTotal, eachMonth}
 use Rattle.totals.specs.declared.tally.Counted.{Counted}
 use Rattle.totals.specs.declared.tally.Counted.the-variants.{Nothing, Day}

@@ -9,8 +9,8 @@ use native.Mathlib.Omega.{arith}
 use lib.Dec.{eqb}
 use borrow.Author.Tests.{eq-eqb, ne-eqb}
 use Rattle.answers.specs.declared.Answer.{Answer}
-use Rattle.totals.specs.Months.{yearAt, monthAt, months, monthNumber}
-use Rattle.totals.specs.Tally.{Comes, InMonthOrder}
+use Rattle.totals.specs.Months.{yearAt, monthAt, months}
+use Rattle.totals.specs.Tally.{monthNumber, Comes, InMonthOrder}
 use Rattle.totals.specs.Totals.{none, one, plus, countedOf, shareOf, totalOf, isMonth, monthTotal, seasonTotal, together}
 use Rattle.totals.specs.declared.tally.Counted.{Counted}
 use Rattle.totals.specs.declared.tally.Counted.the-variants.{Nothing, Day}

@@ -57,7 +57,3 @@ monthAt k = k % 12 + 1
 -- the number of them all: 1,800
 abbrev pub months : ℕ
 months = 12 * (lastYear - firstYear + 1)
-
--- the number of month m of a year
-abbrev pub monthNumber : ℕ → ℕ → ℕ
-monthNumber year m = 12 * (year - firstYear) + (m - 1)

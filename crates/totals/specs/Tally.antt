@@ -3,10 +3,10 @@
 use mathlib.Core.Bool.{Bool, false, not, cond}
 use mathlib.Core.List.{List, [], _∷_, _++_}
 use mathlib.Core.Path.{_≡_}
-use Prim.Native.Nat.{ℕ, _+_, _*_, _≤_, _<_}
+use Prim.Native.Nat.{ℕ, _+_, _*_, _-_, _≤_, _<_}
 use Rattle.answers.specs.declared.Answer.{Answer}
 use Rattle.day.specs.Calendar.{firstYear}
-use Rattle.totals.specs.Months.{yearAt, monthAt, months, monthNumber}
+use Rattle.totals.specs.Months.{yearAt, monthAt, months}
 use Rattle.totals.specs.Totals.{none, one, plus, isMonth, countedOf}
 use Rattle.totals.specs.declared.tally.Counted.{Counted}
 use Rattle.totals.specs.declared.tally.Counted.the-variants.{Nothing, Day}
@@ -46,6 +46,10 @@ said line last t [] = line (t .year) (t .month) (t .total) ++ last (t .season)
 said line last t (a ∷ rest) = ended line t (countedOf a) ++ said line last (after t (countedOf a)) rest
 
 -- ---- date order
+
+-- the number of month m of a year among those of the calendar
+abbrev pub monthNumber : ℕ → ℕ → ℕ
+monthNumber year m = 12 * (year - firstYear) + (m - 1)
 
 -- what is counted is of month number k of the calendar, or of a later one; its number is the least for what comes behind it
 abbrev pub Comes : ℕ → Counted → Type 0
