@@ -29,13 +29,15 @@ fn main() -> ExitCode {
     let logs = LOG_SIZES.map(|size| Log::of_size(size, stations[0], &mut random));
     let bad_dates = bad_dates(&stations[0], &mut random);
     let crops = CropLogs::new(&stations[0], &mut random);
+    let monthly = days::monthly_log(&mut random);
 
     println!("Processor: {}", processor());
     let checked = check_random(&mut random)
         .and_then(|report| check_timed(&timed).map(|()| report))
         .and_then(|report| logs.iter().try_for_each(Log::check).map(|()| report))
         .and_then(|report| check_report(&bad_dates).map(|()| report))
-        .and_then(|report| crops.check().map(|()| report));
+        .and_then(|report| crops.check().map(|()| report))
+        .and_then(|report| check_report(&monthly).map(|()| report));
     match checked {
         Ok(report) => println!("{report}"),
         Err(wrong) => {
@@ -45,7 +47,8 @@ fn main() -> ExitCode {
     }
     let mut ratios = measure_days(&timed);
     ratios.extend(measure_logs(&logs));
-    ratios.push(measure_bad_dates(&bad_dates));
+    ratios.push(measure_report("of bad dates", &bad_dates));
+    ratios.push(measure_report("with the longest report", &monthly));
     ratios.extend(measure_crops(&crops));
     println!("\n{:<52}{:>8}  to reach", "Ratio", "measured");
     for ratio in ratios {
@@ -760,11 +763,11 @@ fn read_and_report<const LOGS: usize>(logs: [&[u8]; LOGS]) -> [(f64, f64); LOGS]
     std::array::from_fn(|place| (times[2 * place], times[2 * place + 1]))
 }
 
-/// The report of a full log of bad dates against the log read alone.
-fn measure_bad_dates(bytes: &[u8]) -> Ratio {
+/// The report of a full log of this sort against the log read alone.
+fn measure_report(sort: &str, bytes: &[u8]) -> Ratio {
     let [(read, report)] = read_and_report([bytes]);
     ratio(
-        "report / read_log, 64 KiB of bad dates",
+        &format!("report / read_log, 64 KiB {sort}"),
         report / read,
         Wanted::Nothing,
     )
