@@ -8,6 +8,7 @@ pub mod Prints
 pub mod FromLog
 pub mod DateOrder
 pub mod Sizes
+pub mod SmallAnswers
 pub mod LongEnough
 pub mod Totals
 pub mod WorkedReport
