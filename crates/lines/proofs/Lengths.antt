@@ -105,8 +105,8 @@ module _ (code : Code) (year month days sum : ℕ) where
   month-line-of-log dated in-year few small =
       omega (arith, month-line-digits 3 1 3 4 (omega arith) (omega arith) (omega arith) (omega arith) (omega arith) (omega arith))
 
-  -- one with fewer than ten days and at most 8 inches, as one day has
-  pub month-line-of-day : year ≤ 9_999 → month ≤ 99 → days < 10 → sum ≤ 80_000 → length (monthLine code year month days sum) ≤ 22
+  -- one with fewer than ten days and less than ten inches
+  pub month-line-of-day : year ≤ 9_999 → month ≤ 99 → days < 10 → sum < 100_000 → length (monthLine code year month days sum) ≤ 22
   month-line-of-day dated in-year few small =
       omega (arith, month-line-digits 3 1 0 0 (omega arith) (omega arith) (omega arith) (omega arith) (omega arith) (omega arith))
 
