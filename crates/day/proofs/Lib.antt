@@ -9,3 +9,4 @@ pub mod FigureLimit
 pub mod Edges
 pub mod Examples
 pub mod WithoutSubstitute
+pub mod LeastValues

@@ -29,17 +29,26 @@ powers-le : (u v a b c d k m : ℕ) → u ≤ v → c ≤ a → v ^ k * b ^ m �
 powers-le u v a b c d k m h g t =
     le-trans (mul-le-mul-right (b ^ m) (pow-le-pow-left h k)) (le-trans t (mul-le-mul-right (d ^ k) (pow-le-pow-left g m)))
 
--- at the greatest height the ratio is 537,000/576,000, and 699,999.5 is still too small
-too-small : (e j : ℕ) → e ≤ 3000 → j < 700000 → (2 * j + 1) ^ 1000 * ratioDenominator ^ 5257 ≤ ratioNumerator e ^ 5257 * (2 * seaLevel) ^ 1000
-too-small e j l h = powers-le (2 * j + 1) 1399999 (ratioNumerator e) ratioDenominator 537000 2026000 1000 5257 (omega arith) (omega arith) (lit≤ tt)
+-- the pressure at the greatest height, where the ratio is 537,000/576,000
+abbrev pub leastPressure : ℕ
+leastPressure = 700718
+
+-- half a unit below it is still too small
+too-small : (e j : ℕ) → e ≤ 3000 → j < leastPressure → (2 * j + 1) ^ 1000 * ratioDenominator ^ 5257 ≤ ratioNumerator e ^ 5257 * (2 * seaLevel) ^ 1000
+too-small e j l h = powers-le (2 * j + 1) 1401435 (ratioNumerator e) ratioDenominator 537000 2026000 1000 5257 (omega arith) (omega arith) (lit≤ tt)
+
+pub pressure-least : (e : ℕ) → e ≤ 3000 → leastPressure ≤ pressureAt e
+unfolding pressureAt
+pressure-least e l =
+    first-at-least (enough e) (suc seaLevel) seaLevel (lit< tt) (sea-level-enough e) leastPressure
+    (λ (j : ℕ) (h : j < leastPressure) (t : T (enough e j)). lt-irrefl _ (lt-of-lt-of-le (ltb→lt _ _ t) (too-small e j l h)))
 
 pub pressure-in : (e : ℕ) → e ≤ 3000 → InRange pressureRange (pos (pressureAt e))
 unfolding pressureAt
 pressure-in e l =
     record {
       bounds = (
-        first-at-least (enough e) (suc seaLevel) seaLevel (lit< tt) (sea-level-enough e) 700000
-            (λ (j : ℕ) (h : j < 700000) (t : T (enough e j)). lt-irrefl _ (lt-of-lt-of-le (ltb→lt _ _ t) (too-small e j l h))),
+        le-trans (lit≤ tt) (pressure-least e l),
         first-at-most (enough e) (suc seaLevel) seaLevel (lit< tt) (sea-level-enough e),
       );
     }
