@@ -12,7 +12,7 @@ use lib.Seq.{getD-drop}
 use Rattle.day.specs.Rules.{numberOf}
 use Rattle.day.specs.declared.Code.{Code}
 use Rattle.day.specs.declared.Refusal.{Refusal}
-use Rattle.day.specs.declared.Refusal.the-variants.{StationField, BadDate, Missing, OutOfRange, OutOfOrder, AboveClear, SumBelowOne}
+use Rattle.day.specs.declared.Refusal.the-variants.{StationField, BadDate, Missing, OutOfRange, OutOfOrder, AboveClear}
 use Rattle.day.specs.declared.Verdict.{Verdict}
 use Rattle.day.specs.declared.Verdict.the-variants.{Figure, Refused, Estimated}
 use Rattle.records.specs.Bytes.{wordAt}
@@ -105,8 +105,7 @@ whyOf n =
     (cond (eqb n 7) Missing
     (cond (eqb n 8) OutOfRange
     (cond (eqb n 9) OutOfOrder
-    (cond (eqb n 10) AboveClear
-    SumBelowOne)))))
+    AboveClear))))
 
 given-back : (why : Refusal) → whyOf (numberOf why) ≡ why
 unfolding whyOf
@@ -116,7 +115,6 @@ given-back Missing = refl
 given-back OutOfRange = refl
 given-back OutOfOrder = refl
 given-back AboveClear = refl
-given-back SumBelowOne = refl
 
 pub one-number : (a b : Refusal) → numberOf a ≡ numberOf b → a ≡ b
 one-number a b e = sym (given-back a) ∙ ap whyOf e ∙ given-back b

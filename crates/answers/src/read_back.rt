@@ -36,10 +36,7 @@ fn refusal_of(number: u32) -> Refusal
     if number == 9 {
         return Refusal::OutOfOrder;
     }
-    if number == 10 {
-        return Refusal::AboveClear;
-    }
-    Refusal::SumBelowOne
+    Refusal::AboveClear
 }
 
 // The number of four bytes at i, the high ones first.

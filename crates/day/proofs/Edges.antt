@@ -1,24 +1,21 @@
 -- Days on both sides of each edge of the refusals 3 and 6 to 10, in one table with one statement over it, `edges`. A refusal that is made wider or
 -- narrower breaks it, even where definition and code agree. Assumes nothing.
-use mathlib.Core.Path.{_≡_, refl, ap, _∙_}
+use mathlib.Core.Path.{_≡_, refl}
 use mathlib.Core.List.{List, [], _∷_, map}
-use Prim.Native.Nat.{ℕ, suc}
-use native.Mathlib.Omega.{arith}
+use Prim.Native.Nat.{ℕ}
 use lib.IntN.{ℤ, pos, negsuc}
 use Rattle.sheet.specs.Limits.{routineLimit}
 use Rattle.sheet.specs.StepSheet as sheet
 use Rattle.day.specs.Calendar.{yearLength, isDate}
 use Rattle.day.specs.Rules.{numberOf}
-use Rattle.day.specs.Judgement.{clearOf, holds, firstOf, standingOf, lacksDewPoint, asJudged}
+use Rattle.day.specs.Judgement.{clearOf, holds, standingOf, lacksDewPoint, asJudged}
 use Rattle.day.specs.declared.Station.{Station}
 use Rattle.day.specs.declared.Day.{Day}
 use Rattle.day.specs.declared.Mean.{Mean}
 use Rattle.day.specs.declared.Mean.the-variants.{Present, Absent}
 use Rattle.day.specs.declared.Earlier.{Earlier}
-use Rattle.day.specs.declared.Refusal.the-variants.{StationField, BadDate, Missing, OutOfRange, OutOfOrder, AboveClear, SumBelowOne}
 use Rattle.day.specs.declared.Standing.{Standing}
 use Rattle.day.specs.declared.Standing.the-variants as standing
-use Rattle.day.proofs.Standings.{orElse, first-then}
 
 -- ---- the number that a day is refused with
 
@@ -27,23 +24,9 @@ abbrev numberIn : Standing → ℕ
 numberIn (standing.Refused r) = numberOf r
 numberIn standing.Answered = 0
 
--- the number of the first of 3 and 6 to 10 that holds of the day as it is judged, 0 for none. Refusal 11 wants the pressure, which is a search and is
--- not computed.
+-- of the day as it is judged
 abbrev refusedWith : Station → Day → Earlier → ℕ
-refusedWith st day earlier =
-    numberIn (firstOf (StationField ∷ BadDate ∷ Missing ∷ OutOfRange ∷ OutOfOrder ∷ AboveClear ∷ []) (λ r. holds r st (asJudged day) earlier))
-
--- a day that is so refused is judged with that number
-refused-is-judged : (st : Station) (day : Day) (earlier : Earlier) (n : ℕ) → refusedWith st day earlier ≡ suc n →
-    numberIn (standingOf st (asJudged day) earlier) ≡ suc n
-unfolding standingOf
-refused-is-judged st day earlier n e =
-    ap numberIn (first-then (StationField ∷ BadDate ∷ Missing ∷ OutOfRange ∷ OutOfOrder ∷ AboveClear ∷ []) (SumBelowOne ∷ []) (λ r. holds r st (asJudged day) earlier))
-    ∙ stays (firstOf (StationField ∷ BadDate ∷ Missing ∷ OutOfRange ∷ OutOfOrder ∷ AboveClear ∷ []) (λ r. holds r st (asJudged day) earlier)) _ e
-  where
-    stays : (s t : Standing) → numberIn s ≡ suc n → numberIn (orElse s t) ≡ suc n
-    stays (standing.Refused r) t e = e
-    stays standing.Answered t e = absurd (omega (arith, e))
+refusedWith st day earlier = numberIn (standingOf st (asJudged day) earlier)
 
 -- ---- stations, days and earlier means
 
@@ -245,5 +228,5 @@ table =
     ∷ []
 
 edges : map given table ≡ map written table
-unfolding lacksDewPoint asJudged holds isDate yearLength clearOf sheet.clearSum sheet.Q sheet.aboveTwiceClear
+unfolding lacksDewPoint asJudged standingOf holds isDate yearLength clearOf sheet.clearSum sheet.Q sheet.aboveTwiceClear
 edges = refl

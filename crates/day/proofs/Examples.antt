@@ -2,7 +2,7 @@
 -- the document's log that gets a figure, and a summer day at the same station after two and after three earlier means. `limits` are a windy day at
 -- three wind limits, `estimates` the summer day without its dew point. All are answered, so what `judged-within-bound` asks can be met. Assumes nothing.
 use mathlib.Core.Path.{_≡_, refl, sym, _∙_, ap, ap₂, subst}
-use mathlib.Core.Bool.{Bool, false, cond}
+use mathlib.Core.Bool.{cond}
 use mathlib.Core.List.{List, [], _∷_, map}
 use Prim.Native.Nat.{ℕ}
 use lib.Dec.{lit<, lit≤}
@@ -12,28 +12,25 @@ use Rattle.numbers.proofs.WholeRoots.{root-is}
 use Rattle.tables.specs.Values.{sumTo, more, expSum, sinSum, rounded, curveAt, arcSum, arcSums, bellSums, a1At, awAt, bwAt, pressureAt}
 use Rattle.tables.proofs.PowerTests.{powerTest, upper, lower, tenthUp, tenthDown}
 use Rattle.tables.proofs.PressureEntries.{pressure-is}
-use Rattle.sheet.specs.declared.Readings.{Readings}
 use Rattle.sheet.specs.declared.Entries.{Entries}
-use Rattle.sheet.specs.declared.Earlier.{Earlier as SheetEarlier}
 use Rattle.sheet.specs.Limits.{routineLimit}
-use Rattle.sheet.specs.Parts.{weighed}
 use Rattle.sheet.specs.StepSheet as sheet
 use Rattle.day.specs.Calendar.{yearLength, isDate}
-use Rattle.day.specs.Rules.{anyOf, numberOf}
-use Rattle.day.specs.Judgement.{readingsOf, entriesOf, clearOf, meansOf, earlierOf, figureOf, holds, Answered, lacksDewPoint, asJudged, withMark, judged}
+use Rattle.day.specs.Rules.{numberOf}
+use Rattle.day.specs.Judgement.{readingsOf, entriesOf, clearOf, meansOf, earlierOf, figureOf, holds, Answered, standingOf, lacksDewPoint, asJudged, withMark, judged}
 use Rattle.day.specs.Bound.{WithinBound, SignedConstants}
 use Rattle.day.specs.declared.Station.{Station}
 use Rattle.day.specs.declared.Day.{Day}
 use Rattle.day.specs.declared.Mean.the-variants.{Present, Absent}
 use Rattle.day.specs.declared.Earlier.{Earlier}
-use Rattle.day.specs.declared.Refusal.{Refusal}
-use Rattle.day.specs.declared.Refusal.the-variants.{StationField, BadDate, Missing, OutOfRange, OutOfOrder, AboveClear, SumBelowOne}
+use Rattle.day.specs.declared.Refusal.the-variants.{AboveClear}
+use Rattle.day.specs.declared.Standing.the-variants as standing
 use Rattle.day.specs.declared.Verdict.{Verdict}
 use Rattle.day.specs.declared.Verdict.the-variants.{Figure, Estimated}
-use Rattle.day.proofs.Tests.{AllFalse, all-false}
 use Rattle.day.proofs.DayBound.{within-bound}
 use Rattle.day.proofs.Edges.{lidwWith}
-use Rattle.day.proofs.Standings.{answered-figure}
+use Rattle.day.proofs.FigureWith.{figureWith}
+use Rattle.day.proofs.Standings.{stands-answered, answered-figure}
 
 -- ---- the marked values
 
@@ -95,14 +92,6 @@ marked = ap (λ (p : ℕ). pos p ∷ map written rest) (sym sea-level)
 
 -- ---- a day worked through: the pressure and the root are searches too, so both are put in as numbers
 
--- the sheet's figure, of the root too
-abbrev figureWith : Readings → Entries → SheetEarlier → ℤ → ℤ → ℤ → ℤ
-figureWith x t earlier q limit root =
-    weighed (x .mean) (t .p)
-    (sheet.H (sheet.Rn (t .albedo) (x .radiation) (sheet.Rb (sheet.emittance (t .a1) root) (sheet.B (x .maximum) (x .minimum)) (sheet.K (x .radiation) q)))
-    (sheet.soilHeat (x .mean) (earlier .k) (earlier .z)))
-    (sheet.drying x t limit)
-
 root-at : (f : ℤ) (n root : ℕ) → pos 10_000_000 *ℤ sheet.e f ≡ pos n → WholeRoot n root → sheet.r (sheet.e f) ≡ pos root
 unfolding sheet.r
 root-at f n root is h = ap wholeRoot is ∙ sym (root-is n root h)
@@ -113,47 +102,23 @@ pub record Worked (st : Station) (day : Day) (earlier : Earlier) (verdict : ℕ 
   pub told : judged st day earlier ≡ verdict n
   pub bound : WithinBound st (asJudged day) earlier n
 
--- the tests of the refusals in their order
-abbrev tests : Station → Day → Earlier → Entries → List Bool
-tests st day earlier t =
-    holds StationField st day earlier
-    ∷ holds BadDate st day earlier
-    ∷ holds Missing st day earlier
-    ∷ holds OutOfRange st day earlier
-    ∷ holds OutOfOrder st day earlier
-    ∷ holds AboveClear st day earlier
-    ∷ sheet.sumBelowOne (day .mean) (t .p)
-    ∷ []
+-- the sheet's figure, of the entries and the root put in
+abbrev figureAs : Station → Day → Earlier → Entries → ℤ → ℕ
+figureAs st day earlier t root =
+    natAbs (figureWith root (sheet.drying (readingsOf day) t (pos (st .limit))) (readingsOf day) t (earlierOf earlier) (clearOf st day))
 
-module _ (st : Station) (day : Day) (earlier : Earlier) (t : Entries) (entries-are : entriesOf st day ≡ t) where
-  figure-with : (root : ℤ) → sheet.r (sheet.e (day .dewpoint)) ≡ root →
-      figureOf st day earlier ≡ natAbs (figureWith (readingsOf day) t (earlierOf earlier) (clearOf st day) (pos (st .limit)) root)
-  unfolding figureOf readingsOf sheet.figure sheet.heat
-  figure-with root is =
-      ap₂ (λ (t : Entries) (root : ℤ). natAbs (figureWith (readingsOf day) t (earlierOf earlier) (clearOf st day) (pos (st .limit)) root)) entries-are is
-
-  by-refusal : AllFalse (tests st day earlier t) → (r : Refusal) → holds r st day earlier ≡ false
-  unfolding holds entriesOf
-  by-refusal h StationField = h .0
-  by-refusal h BadDate = h .1 .0
-  by-refusal h Missing = h .1 .1 .0
-  by-refusal h OutOfRange = h .1 .1 .1 .0
-  by-refusal h OutOfOrder = h .1 .1 .1 .1 .0
-  by-refusal h AboveClear = h .1 .1 .1 .1 .1 .0
-  by-refusal h SumBelowOne = ap (λ (t : Entries). sheet.sumBelowOne (day .mean) (t .p)) entries-are ∙ h .1 .1 .1 .1 .1 .1 .0
-
-  answered-by : anyOf (tests st day earlier t) ≡ false → Answered st day earlier
-  unfolding Answered
-  answered-by e = by-refusal (all-false (tests st day earlier t) e)
+figure-as : (st : Station) (day : Day) (earlier : Earlier) {t : Entries} {root : ℤ} → entriesOf st day ≡ t → sheet.r (sheet.e (day .dewpoint)) ≡ root →
+    figureOf st day earlier ≡ figureAs st day earlier t root
+unfolding figureOf readingsOf sheet.figure sheet.heat
+figure-as st day earlier entries-are is = ap₂ (figureAs st day earlier) entries-are is
 
 -- by computation: none of the refusals holds, and the figure is n, with the mark that the day has
 pub worked : (st : Station) (day : Day) (earlier : Earlier) (t : Entries) → entriesOf st (asJudged day) ≡ t → SignedConstants st → {root : ℤ} →
-    sheet.r (sheet.e (asJudged day .dewpoint)) ≡ root → anyOf (tests st (asJudged day) earlier t) ≡ false → {n : ℕ} →
-    natAbs (figureWith (readingsOf (asJudged day)) t (earlierOf earlier) (clearOf st (asJudged day)) (pos (st .limit)) root) ≡ n → {verdict : ℕ → Verdict} →
-    withMark day n ≡ verdict n → Worked st day earlier verdict n
-worked st day earlier t entries-are constants {root} is none {n} same mark =
-    let answered = answered-by st (asJudged day) earlier t entries-are none in
-    let figure : figureOf st (asJudged day) earlier ≡ n = figure-with st (asJudged day) earlier t entries-are root is ∙ same in
+    sheet.r (sheet.e (asJudged day .dewpoint)) ≡ root → standingOf st (asJudged day) earlier ≡ standing.Answered → {n : ℕ} →
+    figureAs st (asJudged day) earlier t root ≡ n → {verdict : ℕ → Verdict} → withMark day n ≡ verdict n → Worked st day earlier verdict n
+worked st day earlier t entries-are constants is none {n} same mark =
+    let answered = stands-answered st (asJudged day) earlier none in
+    let figure : figureOf st (asJudged day) earlier ≡ n = figure-as st (asJudged day) earlier entries-are is ∙ same in
     record {
       answered = answered;
       told = answered-figure st day earlier answered ∙ ap (withMark day) figure ∙ mark;
@@ -242,7 +207,7 @@ abbrev Estimates : Type 0
 Estimates = Worked station noDewPoint summerMeans Estimated 3_347
 
 all-worked : Days × Limits × Estimates
-unfolding lacksDewPoint asJudged withMark entriesOf holds isDate yearLength readingsOf clearOf meansOf earlierOf sheet.sumOf sheet.clearSum sheet.Q sheet.aboveTwiceClear sheet.sumBelowOne sheet.U sheet.V2 sheet.V4 sheet.V6 sheet.V7 sheet.V8 sheet.e sheet.D sheet.M sheet.g sheet.w1 sheet.w2 sheet.ρ sheet.K sheet.N sheet.fourthPower sheet.B sheet.emittance sheet.Rb sheet.S sheet.Rn sheet.soilHeat sheet.H sheet.countedWind sheet.Wf sheet.«V» sheet.T sheet.drying sheet.A sheet.Figure
+unfolding lacksDewPoint asJudged withMark entriesOf standingOf holds isDate yearLength readingsOf clearOf meansOf earlierOf sheet.sumOf sheet.clearSum sheet.Q sheet.aboveTwiceClear sheet.U sheet.V2 sheet.V4 sheet.V6 sheet.V7 sheet.V8 sheet.e sheet.D sheet.M sheet.g sheet.w1 sheet.w2 sheet.ρ sheet.K sheet.N sheet.fourthPower sheet.B sheet.emittance sheet.Rb sheet.S sheet.Rn sheet.soilHeat sheet.H sheet.countedWind sheet.Wf sheet.«V» sheet.T sheet.drying sheet.A sheet.Figure
 all-worked = (
   (
     worked station winterDay winterMeans (winterEntries 954_675) (entries .0) constants (roots .0) refl refl refl,

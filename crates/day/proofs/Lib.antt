@@ -6,7 +6,9 @@ pub mod Standings
 pub mod Marks
 pub mod DayBound
 pub mod FigureLimit
+pub mod FigureWith
 pub mod Edges
 pub mod Examples
 pub mod WithoutSubstitute
 pub mod LeastValues
+pub mod WithEleven

@@ -1,31 +1,17 @@
--- What a day's standing tells: a day that stands answered is one that no refusal holds of, and the other way round; its verdict is then its figure;
--- and the refusals asked in two parts are the refusals asked in a row. Assumes nothing.
+-- What a day's standing tells: a day that stands answered is one that no refusal holds of, and the other way round; its verdict is then its figure.
+-- Assumes nothing.
 use mathlib.Core.Path.{_≡_, refl, sym, _∙_, ap, subst}
 use mathlib.Core.Bool.{Bool, true, false, cond}
-use mathlib.Core.List.{List, [], _∷_, _++_}
+use mathlib.Core.List.{List, [], _∷_}
 use lib.Dec.{T}
 use Rattle.day.specs.Judgement.{holds, Answered, firstOf, inOrder, standingOf, asJudged, withMark, verdictWith, judged, figureOf}
 use Rattle.day.specs.declared.Station.{Station}
 use Rattle.day.specs.declared.Day.{Day}
 use Rattle.day.specs.declared.Earlier.{Earlier}
 use Rattle.day.specs.declared.Refusal.{Refusal}
-use Rattle.day.specs.declared.Refusal.the-variants.{StationField, BadDate, Missing, OutOfRange, OutOfOrder, AboveClear, SumBelowOne}
+use Rattle.day.specs.declared.Refusal.the-variants.{StationField, BadDate, Missing, OutOfRange, OutOfOrder, AboveClear}
 use Rattle.day.specs.declared.Standing.{Standing}
 use Rattle.day.specs.declared.Standing.the-variants as standing
-
--- ---- asked in two parts
-
-abbrev pub orElse : Standing → Standing → Standing
-orElse (standing.Refused r) s = standing.Refused r
-orElse standing.Answered s = s
-
-pub first-then : (rs ss : List Refusal) (held : Refusal → Bool) → firstOf (rs ++ ss) held ≡ orElse (firstOf rs held) (firstOf ss held)
-first-then [] ss held = refl
-first-then (r ∷ rs) ss held = by (held r) (firstOf rs held) (firstOf ss held) (first-then rs ss held)
-  where
-    by : (b : Bool) {s : Standing} (t u : Standing) → s ≡ orElse t u → cond b (standing.Refused r) s ≡ orElse (cond b (standing.Refused r) t) u
-    by true t u e = refl
-    by false t u e = e
 
 -- ---- none holds
 
@@ -51,19 +37,6 @@ none-first [] held h = refl
 none-first (r ∷ rs) held h = ap (λ (b : Bool). cond b (standing.Refused r) (firstOf rs held)) (h r) ∙ none-first rs held h
 
 module _ (st : Station) (day : Day) (earlier : Earlier) where
-  -- what is told before the sheet, and else by it
-  pub stands : {s t : Standing} → s ≡ firstOf (StationField ∷ BadDate ∷ Missing ∷ OutOfRange ∷ OutOfOrder ∷ []) (λ r. holds r st day earlier) →
-      t ≡ firstOf (AboveClear ∷ SumBelowOne ∷ []) (λ r. holds r st day earlier) → orElse s t ≡ standingOf st day earlier
-  unfolding standingOf
-  stands p q =
-      (λ i. orElse (p i) (q i))
-      ∙ sym (first-then (StationField ∷ BadDate ∷ Missing ∷ OutOfRange ∷ OutOfOrder ∷ []) (AboveClear ∷ SumBelowOne ∷ []) (λ r. holds r st day earlier))
-
-  pub stands-refused : {r : Refusal} →
-      standing.Refused r ≡ firstOf (StationField ∷ BadDate ∷ Missing ∷ OutOfRange ∷ OutOfOrder ∷ []) (λ r. holds r st day earlier) →
-      standing.Refused r ≡ standingOf st day earlier
-  stands-refused p = stands p refl
-
   pub stands-answered : standingOf st day earlier ≡ standing.Answered → Answered st day earlier
   unfolding standingOf Answered
   stands-answered e = each (none-of inOrder (λ r. holds r st day earlier) e)
@@ -75,7 +48,6 @@ module _ (st : Station) (day : Day) (earlier : Earlier) where
       each h OutOfRange = h .1 .1 .1 .0
       each h OutOfOrder = h .1 .1 .1 .1 .0
       each h AboveClear = h .1 .1 .1 .1 .1 .0
-      each h SumBelowOne = h .1 .1 .1 .1 .1 .1 .0
 
   -- what is told of the day as it is judged, by whatever has that day
   pub stands-as-judged : {s : Standing} {y : Day} → s ≡ standingOf st y earlier → y ≡ asJudged day → s ≡ standingOf st (asJudged day) earlier

@@ -12,7 +12,7 @@ use Rattle.day.specs.declared.Station.{Station}
 use Rattle.day.specs.declared.Day.{Day}
 use Rattle.day.specs.declared.Earlier.{Earlier}
 use Rattle.day.specs.declared.Refusal.{Refusal}
-use Rattle.day.specs.declared.Refusal.the-variants.{StationField, BadDate, Missing, OutOfRange, OutOfOrder, AboveClear, SumBelowOne}
+use Rattle.day.specs.declared.Refusal.the-variants.{StationField, BadDate, Missing, OutOfRange, OutOfOrder, AboveClear}
 use Rattle.day.specs.declared.Standing.{Standing}
 use Rattle.day.specs.declared.Standing.the-variants as standing
 use Rattle.day.specs.declared.Verdict.{Verdict}
@@ -73,8 +73,8 @@ module _ (st : Station) (x : Day) (earlier : Earlier) where
   unfolding judged judgedStrictly standingOf holds asJudged
   seven-or-still e =
       earlier-tests (badStation st) (not (isDate (x .year) (x .d))) (holds Missing st x earlier)
-      (firstOf (OutOfRange ∷ OutOfOrder ∷ AboveClear ∷ SumBelowOne ∷ []) (λ r. holds r st x earlier))
-      (firstOf (Missing ∷ OutOfRange ∷ OutOfOrder ∷ AboveClear ∷ SumBelowOne ∷ []) (λ r. holds r st (asJudged x) earlier))
+      (firstOf (OutOfRange ∷ OutOfOrder ∷ AboveClear ∷ []) (λ r. holds r st x earlier))
+      (firstOf (Missing ∷ OutOfRange ∷ OutOfOrder ∷ AboveClear ∷ []) (λ r. holds r st (asJudged x) earlier))
       (Figure (figureOf st x earlier)) (withMark x (figureOf st (asJudged x) earlier)) (missing-held e)
 
   pub refused-without : lacksDewPoint x ≡ true → (r : Refusal) × (judgedStrictly st x earlier ≡ Refused r)

@@ -20,7 +20,7 @@ use Rattle.day.specs.declared.Mean.{Mean}
 use Rattle.day.specs.declared.Mean.the-variants.{Present, Absent}
 use Rattle.day.specs.declared.Earlier.{Earlier}
 use Rattle.day.specs.declared.Refusal.{Refusal}
-use Rattle.day.specs.declared.Refusal.the-variants.{StationField, BadDate, Missing, OutOfRange, OutOfOrder, AboveClear, SumBelowOne}
+use Rattle.day.specs.declared.Refusal.the-variants.{StationField, BadDate, Missing, OutOfRange, OutOfOrder, AboveClear}
 use Rattle.day.specs.declared.Standing.{Standing}
 use Rattle.day.specs.declared.Standing.the-variants as standing
 use Rattle.day.specs.declared.Verdict.{Verdict}
@@ -94,7 +94,6 @@ holds Missing st x earlier = anyOf (missingMarks (x .maximum) (x .minimum) (x .m
 holds OutOfRange st x earlier = outOfRange x earlier
 holds OutOfOrder st x earlier = anyOf (orderFaults (x .maximum) (x .minimum) (x .mean) (x .dewpoint))
 holds AboveClear st x earlier = sheet.aboveTwiceClear (x .radiation) (clearOf st x)
-holds SumBelowOne st x earlier = sheet.sumBelowOne (x .mean) (pos (pressureAt (st .elevation)))
 
 -- Answered: none of the refusals holds
 unfoldable pub Answered : Station → Day → Earlier → Type 0
@@ -107,9 +106,9 @@ abbrev pub firstOf : List Refusal → (Refusal → Bool) → Standing
 firstOf [] held = standing.Answered
 firstOf (r ∷ rs) held = cond (held r) (standing.Refused r) (firstOf rs held)
 
--- "the first of 3, 6 (calendar only), 7, 8, 9, 10, 11, in that order"
+-- "the first of 3, 6 (calendar only), 7, 8, 9, 10, 11, in that order", without 11 (02, W6)
 abbrev pub inOrder : List Refusal
-inOrder = StationField ∷ BadDate ∷ Missing ∷ OutOfRange ∷ OutOfOrder ∷ AboveClear ∷ SumBelowOne ∷ []
+inOrder = StationField ∷ BadDate ∷ Missing ∷ OutOfRange ∷ OutOfOrder ∷ AboveClear ∷ []
 
 unfoldable pub standingOf : Station → Day → Earlier → Standing
 standingOf st x earlier = firstOf inOrder (λ r. holds r st x earlier)

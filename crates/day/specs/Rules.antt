@@ -13,9 +13,10 @@ use Rattle.day.specs.declared.Mean.{Mean}
 use Rattle.day.specs.declared.Mean.the-variants.{Present, Absent}
 use Rattle.day.specs.declared.Station.{Station}
 use Rattle.day.specs.declared.Refusal.{Refusal}
-use Rattle.day.specs.declared.Refusal.the-variants.{StationField, BadDate, Missing, OutOfRange, OutOfOrder, AboveClear, SumBelowOne}
+use Rattle.day.specs.declared.Refusal.the-variants.{StationField, BadDate, Missing, OutOfRange, OutOfOrder, AboveClear}
 
--- the document's number of each refusal
+-- the document's number of each refusal. 11 was "D + g of the sheet below 1", which no day can meet (proofs/LeastValues.antt). It went with 02, W6, and
+-- the number is not given to anything else.
 abbrev pub numberOf : Refusal → ℕ
 numberOf StationField = 3
 numberOf BadDate = 6
@@ -23,7 +24,6 @@ numberOf Missing = 7
 numberOf OutOfRange = 8
 numberOf OutOfOrder = 9
 numberOf AboveClear = 10
-numberOf SumBelowOne = 11
 
 -- one of the tests holds
 abbrev pub anyOf : List Bool → Bool

@@ -53,7 +53,7 @@ pub fn readings_of(day: Day) -> Readings
 }
 
 // The pressure p at the elevation.
-pub fn pressure_at(pressures: &[u32; 3001], elevation: u16) -> i64
+fn pressure_at(pressures: &[u32; 3001], elevation: u16) -> i64
     requires { ⌜ PressureTable (now pressures) × (elevation ≤ 3000) ⌝ }
     ensures { λ r. ⌜ (r ≡ pos (pressureAt elevation)) × InRange quantities.pressure r ⌝ }
 {

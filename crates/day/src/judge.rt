@@ -52,7 +52,7 @@ pub fn judge_by(
     ensures { λ r. ⌜ FigureInRange r ⌝ }
 {
     let x = as_judged(day);
-    match standing(pressures, station, x, earlier) {
+    match standing(station, x, earlier) {
         Standing::Refused(why) => Verdict::Refused(why),
         Standing::Answered => with_mark(day, figure(days, pressures, station, x, earlier)),
     }

@@ -57,7 +57,7 @@ pub struct Earlier {
     pub three: Mean,
 }
 
-// Why a day gets no figure; specs/Rules.antt gives each its number.
+// Why a day gets no figure; specs/Rules.antt gives each its number. 11 was a refusal once, and is given to nothing else.
 pub enum Refusal {
     StationField,
     BadDate,
@@ -65,7 +65,6 @@ pub enum Refusal {
     OutOfRange,
     OutOfOrder,
     AboveClear,
-    SumBelowOne,
 }
 
 // What refuses a day, or that nothing does.
@@ -93,7 +92,6 @@ impl Refusal {
             Refusal::OutOfRange => 8,
             Refusal::OutOfOrder => 9,
             Refusal::AboveClear => 10,
-            Refusal::SumBelowOne => 11,
         }
     }
 }

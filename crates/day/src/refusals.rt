@@ -1,19 +1,14 @@
 // What refuses a day, by document 01's numbers and in its order, before any figure is worked.
 ghost use mathlib.Core.Path.{_≡_};
-ghost use mathlib.Core.Bool.{not, cond};
+ghost use mathlib.Core.Bool.{not};
 ghost use mathlib.Core.List.{[], _∷_};
 ghost use Prim.Native.Nat.{_≤_};
-ghost use lib.IntN.{pos};
 ghost use Rattle.numbers.specs.Ranges.{InRange};
-ghost use Rattle.tables.specs.Tables.{PressureTable};
-ghost use Rattle.tables.specs.Values.{pressureAt};
 ghost use Rattle.sheet.specs.Quantities as quantities;
 ghost use Rattle.sheet.specs.StepSheet as sheet;
 ghost use Rattle.day.specs.Calendar.{isDate};
 ghost use Rattle.day.specs.Rules.{anyOf, badStation, missingMarks, readingFaults, meanFault, orderFaults};
-ghost use Rattle.day.specs.Judgement.{outOfRange, clearOf, holds, firstOf, standingOf};
-ghost use Rattle.day.specs.declared.Refusal.the-variants.{StationField, BadDate, Missing, OutOfRange, OutOfOrder, AboveClear, SumBelowOne};
-ghost use Rattle.day.specs.declared.Standing.the-variants as standing;
+ghost use Rattle.day.specs.Judgement.{outOfRange, clearOf, standingOf};
 use crate::Day;
 use crate::Earlier;
 use crate::Refusal;
@@ -21,7 +16,6 @@ use crate::Standing;
 use crate::Station;
 use crate::calendar::is_date;
 use crate::inputs::clear_of;
-use crate::inputs::pressure_at;
 use crate::inputs::wide;
 use crate::rules::mean_out_of_range;
 use crate::rules::out_of_order;
@@ -124,20 +118,9 @@ fn above_clear(station: Station, day: Day) -> bool
     sheet::clear::above_twice_clear(s, q)
 }
 
-// Refusal 11.
-fn sum_below_one(pressures: &[u32; 3001], station: Station, day: Day) -> bool
-    requires { ⌜ PressureTable (now pressures) × (station .elevation ≤ 3000) ⌝ }
-    requires { ⌜ InRange quantities.temperature (day .mean) ⌝ }
-    ensures { λ r. ⌜ r ≡ sheet.sumBelowOne (day .mean) (pos (pressureAt (station .elevation))) ⌝ }
-{
-    let m = wide(day.mean);
-    let p = pressure_at(pressures, station.elevation);
-    sheet::figure::sum_below_one(m, p)
-}
-
-// What can be told without the sheet: 3, 6, 7, 8, 9.
-fn before_the_sheet(station: Station, day: Day, earlier: Earlier) -> Standing
-    ensures { λ r. ⌜ r ≡ firstOf (StationField ∷ BadDate ∷ Missing ∷ OutOfRange ∷ OutOfOrder ∷ []) (λ why. holds why station day earlier) ⌝ }
+// The first of 3, 6, 7, 8, 9, 10 that holds, or that none does.
+pub fn standing(station: Station, day: Day, earlier: Earlier) -> Standing
+    ensures { λ r. ⌜ r ≡ standingOf station day earlier ⌝ }
 {
     if bad_station(station) {
         return Standing::Refused(Refusal::StationField);
@@ -154,32 +137,8 @@ fn before_the_sheet(station: Station, day: Day, earlier: Earlier) -> Standing
     if disordered(day) {
         return Standing::Refused(Refusal::OutOfOrder);
     }
-    Standing::Answered
-}
-
-// What the sheet's own lines refuse: 10, 11.
-fn by_the_sheet(pressures: &[u32; 3001], station: Station, day: Day) -> Standing
-    requires { ⌜ (1 ≤ day .d) × (day .d ≤ 366) × (50 ≤ station .minimum) × (station .minimum ≤ 200) ⌝ }
-    requires { ⌜ InRange quantities.radiation (day .radiation) × InRange quantities.temperature (day .mean) ⌝ }
-    requires { ⌜ PressureTable (now pressures) × (station .elevation ≤ 3000) ⌝ }
-    ensures { λ r. ⌜ r ≡ cond (sheet.aboveTwiceClear (day .radiation) (clearOf station day)) (standing.Refused AboveClear) (cond (sheet.sumBelowOne (day .mean) (pos (pressureAt (station .elevation)))) (standing.Refused SumBelowOne) standing.Answered) ⌝ }
-{
     if above_clear(station, day) {
         return Standing::Refused(Refusal::AboveClear);
     }
-    if sum_below_one(pressures, station, day) {
-        return Standing::Refused(Refusal::SumBelowOne);
-    }
     Standing::Answered
-}
-
-// The first of 3, 6, 7, 8, 9, 10, 11 that holds, or that none does.
-pub fn standing(pressures: &[u32; 3001], station: Station, day: Day, earlier: Earlier) -> Standing
-    requires { ⌜ PressureTable (now pressures) ⌝ }
-    ensures { λ r. ⌜ r ≡ standingOf station day earlier ⌝ }
-{
-    match before_the_sheet(station, day, earlier) {
-        Standing::Refused(why) => Standing::Refused(why),
-        Standing::Answered => by_the_sheet(pressures, station, day),
-    }
 }

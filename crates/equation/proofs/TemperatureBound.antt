@@ -4,7 +4,7 @@ use mathlib.Core.Path.{_≡_, sym, _∙_, ap, ap₂}
 use lib.Dec.{T}
 use lib.IntN.{ℤ, pos, negsuc, _+ℤ_, _-ℤ_, _*ℤ_, *ℤ-comm}
 use lib.Signed.{_≤ℤ_}
-use Rattle.numbers.specs.Whole.{_÷↓_, absℤ}
+use Rattle.numbers.specs.Whole.{_÷↓_}
 use Rattle.numbers.specs.Solver.{con, _:+_, _:-_, _:*_, _:^_, _:=_}
 use Rattle.numbers.specs.IntegerSolver.{ringℤ}
 use Rattle.numbers.specs.Ratios.{Ratio, _over_, _*ᴿ_, -ᴿ_, nonnegᴿ, leᴿ}
@@ -17,7 +17,6 @@ use Rattle.numbers.proofs.Inverse.{fraction-inverse}
 use Rattle.numbers.proofs.Bounds.{abs-nonneg, abs-is-nonneg}
 use Rattle.numbers.proofs.Quotients.{rounds-down}
 use Rattle.numbers.proofs.Rounded.{Rounded, wholeᴿ, weaken, in-unit, of-value, of-whole, in-range, literal, sum, difference, product, multiple, scaled, divided, portion}
-use Rattle.numbers.proofs.RoundedLimit.{absolute-rounded}
 use Rattle.sheet.specs.StepSheet as sheet
 use Rattle.equation.specs.Equation as equation
 use Rattle.equation.specs.Nearness.{tenths}
@@ -84,25 +83,32 @@ module _ (f : ℤ) (lo : negsuc 93 ≤ℤ f) (hi : f ≤ℤ pos 1291) where
 
   -- ---- the vapour pressure, the slope, the latent heat
 
-  -- 1,900 |f + 160| billionths are 0.000019 |F + 16|
-  absolute-part : Rounded (pos 1900 *ℤ absℤ (f +ℤ pos 160)) billionths (19 /ℚ 1000000 *ℚ absℚ (tenths f +ℚ 16 /ℚ 1)) (3 over 1000) (0 over 1)
-  absolute-part =
-      of-value (ringℚ 1 (λ a. 1900 # 1 :* (1 # 100000000 :* a) := 19 # 1000000 :* a) tt (absℚ (tenths f +ℚ 16 /ℚ 1)))
+  -- F + 16 is at least 6.6
+  above-16 : NonNeg (tenths f +ℚ 16 /ℚ 1)
+  above-16 =
+      nonneg-eq (ringℚ 1 (λ f. f :* 1 # 10 :+ 16 # 1 := (f :- con (wholeᴿ (negsuc 93))) :* 1 # 10 :+ 66 # 10) tt (fromℤ f))
+      (nonneg-add (nonneg-mul (gap (fromℤ-mono lo)) (nonneg-ratio (1 over 10) tt)) (nonneg-ratio (66 over 10) tt))
+
+  -- so 1,900 (f + 160) billionths are 0.000019 |F + 16|
+  distance-rounded : Rounded (pos 1900 *ℤ (f +ℤ pos 160)) billionths (19 /ℚ 1000000 *ℚ absℚ (tenths f +ℚ 16 /ℚ 1)) (3 over 1000) (0 over 1)
+  distance-rounded =
+      of-value
+      (ringℚ 1 (λ a. 1900 # 1 :* (1 # 100000000 :* a) := 19 # 1000000 :* a) tt (tenths f +ℚ 16 /ℚ 1)
+      ∙ ap (λ (a : ℚ). 19 /ℚ 1000000 *ℚ a) (sym (abs-nonneg above-16)))
       (weaken tt tt tt
       (multiple 1900
-      (scaled (1 over 100000000) tt
-      (absolute-rounded tt (sum (in-units (1 over 10) (1291 over 10) tt tt tt) (literal (pos 160) (1 over 10) (16 over 1) (16 over 1) tt tt tt))))))
+      (scaled (1 over 100000000) tt (sum (in-units (1 over 10) (1291 over 10) tt tt tt) (literal (pos 160) (1 over 10) (16 over 1) (16 over 1) tt tt tt)))))
 
   pub e-rounded : Rounded (sheet.e f) billionths (equation.e (tenths f)) (152 over 10) (62 over 1000000000)
   unfolding sheet.e equation.e y
   e-rounded =
-      of-whole (ap (λ (z : ℤ). z ÷↓ pos 100000) (*ℤ-comm (pos 338639) (sheet.V8 f -ℤ pos 1900 *ℤ absℤ (f +ℤ pos 160) +ℤ pos 1316000)))
+      of-whole (ap (λ (z : ℤ). z ÷↓ pos 100000) (*ℤ-comm (pos 338639) (sheet.V8 f -ℤ pos 1900 *ℤ (f +ℤ pos 160) +ℤ pos 1316000)))
       (of-value
       (ringℚ 2 (λ p a. 1 # 100000 :* (338639 # 1 :* (p :- a :+ 1316000 # 1000000000)) := 338639 # 100000 :* (p :- a :+ 1316 # 1000000)) tt
       (y ^ℚ 8) (19 /ℚ 1000000 *ℚ absℚ (tenths f +ℚ 16 /ℚ 1)))
       (weaken tt tt tt
       (portion rounds-down 338639 100000 tt tt
-      (sum (difference V8-rounded absolute-part) (literal (pos 1316000) billionths (1316000 over 1000000000) (1316000 over 1000000000) tt tt tt)))))
+      (sum (difference V8-rounded distance-rounded) (literal (pos 1316000) billionths (1316000 over 1000000000) (1316000 over 1000000000) tt tt tt)))))
 
   pub D-rounded : Rounded (sheet.D f) billionths (equation.Δ (tenths f)) (7402 over 10000) (34 over 10000000000)
   unfolding sheet.D equation.Δ y
@@ -172,12 +178,6 @@ module _ (f : ℤ) (lo : negsuc 93 ≤ℤ f) (hi : f ≤ℤ pos 1291) where
   Δ-low =
       from-gap (nonneg-add (nonneg-mul (nonneg-ratio (2 over 10) tt) (gap seventh-low)) (nonneg-ratio (38 over 1000000) tt))
       (ringℚ 1 (λ p. 2 # 10 :* p :- 116 # 1000000 :- 84 # 10000 := 2 # 10 :* (p :- 4277 # 100000) :+ 38 # 1000000) tt (y ^ℚ 7))
-
-  -- F + 16 is at least 6.6
-  above-16 : NonNeg (tenths f +ℚ 16 /ℚ 1)
-  above-16 =
-      nonneg-eq (ringℚ 1 (λ f. f :* 1 # 10 :+ 16 # 1 := (f :- con (wholeᴿ (negsuc 93))) :* 1 # 10 :+ 66 # 10) tt (fromℤ f))
-      (nonneg-add (nonneg-mul (gap (fromℤ-mono lo)) (nonneg-ratio (1 over 10) tt)) (nonneg-ratio (66 over 10) tt))
 
   -- 0.000019 |F + 16| is at most 0.002757
   pub e-low : 87 /ℚ 1000 ≤ℚ equation.e (tenths f)

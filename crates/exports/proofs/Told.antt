@@ -13,7 +13,7 @@ use Rattle.exports.specs.Told.{Said, accepted, refused, estimated, markN
 use Rattle.day.specs.declared.Day.{Day}
 use Rattle.day.specs.declared.Earlier.{Earlier}
 use Rattle.day.specs.declared.Refusal.{Refusal}
-use Rattle.day.specs.declared.Refusal.the-variants.{StationField, BadDate, Missing, OutOfRange, OutOfOrder, AboveClear, SumBelowOne}
+use Rattle.day.specs.declared.Refusal.the-variants.{StationField, BadDate, Missing, OutOfRange, OutOfOrder, AboveClear}
 use Rattle.day.specs.declared.Station.{Station}
 use Rattle.day.specs.declared.Verdict.{Verdict}
 
@@ -59,7 +59,6 @@ refusal-said Missing = refl
 refusal-said OutOfRange = refl
 refusal-said OutOfOrder = refl
 refusal-said AboveClear = refl
-refusal-said SumBelowOne = refl
 
 -- what is owed of a station, a day and earlier means is owed of those that they are equal to
 module _ {st st' : Station} {x x' : Day} {e e' : Earlier} (station : st ≡ st') (day : x ≡ x') (earlier : e ≡ e') where

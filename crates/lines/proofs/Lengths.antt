@@ -15,7 +15,7 @@ use Rattle.day.proofs.Verdict.Laws.{the-laws}
 use Rattle.day.specs.Rules.{numberOf}
 use Rattle.day.specs.declared.Code.{Code}
 use Rattle.day.specs.declared.Refusal.{Refusal}
-use Rattle.day.specs.declared.Refusal.the-variants.{StationField, BadDate, Missing, OutOfRange, OutOfOrder, AboveClear, SumBelowOne}
+use Rattle.day.specs.declared.Refusal.the-variants.{StationField, BadDate, Missing, OutOfRange, OutOfOrder, AboveClear}
 use Rattle.day.specs.declared.Verdict.{Verdict}
 use Rattle.day.specs.declared.Verdict.the-variants.{Figure, Refused, Estimated}
 use Rattle.lines.specs.Text.{digits, padded, inches, field, verdictText, dayLine, cropLine, totals, monthLine, seasonLine, refusedLine}
@@ -32,7 +32,6 @@ two-digits Missing = lit< tt
 two-digits OutOfRange = lit< tt
 two-digits OutOfOrder = lit< tt
 two-digits AboveClear = lit< tt
-two-digits SumBelowOne = lit< tt
 
 pub refusal-most : (r : Refusal) → length (verdictText (Refused r)) ≤ 3
 unfolding verdictText

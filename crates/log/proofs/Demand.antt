@@ -8,7 +8,7 @@ use Rattle.day.specs.Judgement.{holds, Answered, asJudged, withMark, judged}
 use Rattle.day.specs.declared.Day.{Day}
 use Rattle.day.specs.declared.Earlier.{Earlier}
 use Rattle.day.specs.declared.Refusal.{Refusal}
-use Rattle.day.specs.declared.Refusal.the-variants.{StationField, BadDate, Missing, OutOfRange, OutOfOrder, AboveClear, SumBelowOne}
+use Rattle.day.specs.declared.Refusal.the-variants.{StationField, BadDate, Missing, OutOfRange, OutOfOrder, AboveClear}
 use Rattle.day.specs.declared.Station.{Station}
 use Rattle.day.specs.declared.Verdict.{Verdict}
 use Rattle.day.proofs.DayBound.{judged-within-bound}
@@ -33,7 +33,6 @@ module _ {s : List ℕ} {i : ℕ} {st : Station} {x : Day} {earlier : Earlier} {
   none-holds OutOfRange = d .others OutOfRange tt
   none-holds OutOfOrder = d .others OutOfOrder tt
   none-holds AboveClear = d .others AboveClear tt
-  none-holds SumBelowOne = d .others SumBelowOne tt
 
   pub answered : Answered st (asJudged x) earlier
   unfolding Answered

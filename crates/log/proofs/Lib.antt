@@ -29,3 +29,4 @@ pub mod FirstStation
 pub mod LimitedStations
 pub mod AnswersSince
 pub mod WithoutSubstitute
+pub mod WithEleven

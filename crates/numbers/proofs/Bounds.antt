@@ -7,7 +7,7 @@ use Rattle.numbers.specs.Solver.{_:+_, _:-_, _:*_, :-_, _:=_}
 use Rattle.numbers.specs.Ratios.{Ratio, _over_, -ᴿ_, leᴿ}
 use Rattle.numbers.specs.Fractions.{ℚ, fraction, fromℤ, _+ℚ_, _*ℚ_, -ℚ_, _-ℚ_, inverse, _÷ℚ_, nonneg, _≤ℚ_, _<ℚ_, absℚ}
 use Rattle.numbers.proofs.FractionSolver.{ringℚ, _#_, fraction-negation}
-use Rattle.numbers.proofs.Order.{NonNeg, nonneg-add, nonneg-mul, nonneg-eq, nonneg-negate, nonneg-ratio, gap, from-gap, ≤ℚ-ratio, ≤ℚ-eq, ≤ℚ-trans, ≤ℚ-antisym, <ℚ-≤ℚ, <ℚ-≤ℚ-trans}
+use Rattle.numbers.proofs.Order.{NonNeg, nonneg-add, nonneg-mul, nonneg-eq, nonneg-negate, nonneg-ratio, gap, from-gap, ≤ℚ-ratio, ≤ℚ-eq, ≤ℚ-trans, <ℚ-≤ℚ, <ℚ-≤ℚ-trans}
 use Rattle.numbers.proofs.Inverse.{*ℚ-inverse, nonneg-inverse-of, inverse-at-most}
 
 pub record Bounded (x a : ℚ) : Type 0 where
@@ -114,11 +114,6 @@ abs-bounded {x} {a} p = by-test (nonneg x)
     by-test : (b : Bool) → cond b x (-ℚ x) ≤ℚ a
     by-test true = p .high
     by-test false = bounded-neg p .high
-
-pub abs-negative : (x : ℚ) → absℚ (-ℚ x) ≡ absℚ x
-abs-negative x =
-    ≤ℚ-antisym (abs-bounded (bounded-neg (bounded-abs x)))
-    (abs-bounded (bounded-eq (ringℚ 1 (λ x. x := :- :- x) tt x) (bounded-neg (bounded-abs (-ℚ x)))))
 
 pub abs-is-nonneg : (x : ℚ) → NonNeg (absℚ x)
 abs-is-nonneg x = bound-nonneg (bounded-abs x)

@@ -9,7 +9,7 @@ use Rattle.numbers.specs.Fractions.{ℚ, fromℤ, _+ℚ_, _*ℚ_, -ℚ_,
 use Rattle.numbers.proofs.FractionSolver.{ringℚ, from-multipleℚ, _#_}
 use Rattle.numbers.proofs.Order.{NonNeg, nonneg-add, nonneg-mul, nonneg-negate, nonneg-ratio, gap, from-gap, ≤ℚ-eq, ≤ℚ-trans, <ℚ-≤ℚ-trans}
 use Rattle.numbers.proofs.Inverse.{*ℚ-inverse, nonneg-inverse-of}
-use Rattle.numbers.proofs.Bounds.{Bounded, above, below, bounded, bounded-add, bounded-neg, bounded-mul, bounded-scale, bounded-weaken, bounded-eq, bounded-inverse, bounded-abs, abs-bounded, bound-nonneg}
+use Rattle.numbers.proofs.Bounds.{Bounded, above, below, bounded, bounded-add, bounded-neg, bounded-mul, bounded-scale, bounded-weaken, bounded-eq, bounded-inverse, abs-bounded, bound-nonneg}
 
 -- the error, as a bounded number
 pub error : {x X ε : ℚ} → Near x X ε → Bounded (x -ℚ X) ε
@@ -112,17 +112,6 @@ pub near-at-least : {x X ε l m : ℚ} → m +ℚ ε ≤ℚ l → l ≤ℚ X →
 near-at-least {x} {X} {ε} {l} {m} t h k =
     from-gap (nonneg-add (nonneg-add (gap t) (gap h)) (above (error k)))
     (ringℚ 5 (λ x X e l m. x :- m := l :- (m :+ e) :+ (X :- l) :+ (x :- X :+ e)) tt x X ε l m)
-
--- ---- the absolute value
-
-abs-at-most : {x X ε : ℚ} → Near x X ε → absℚ x ≤ℚ absℚ X +ℚ ε
-abs-at-most {x} {X} h = abs-bounded (near-bounded (bounded-abs X) h)
-
-pub near-absolute : {x X ε : ℚ} → Near x X ε → Near (absℚ x) (absℚ X) ε
-near-absolute {x} {X} {ε} h =
-    near refl
-    (bounded (gap (abs-at-most (near-sym h))) (ringℚ 3 (λ a b e. a :- b :+ e := a :+ e :- b) tt (absℚ x) (absℚ X) ε) (gap (abs-at-most h))
-    (ringℚ 3 (λ a b e. e :- (a :- b) := b :+ e :- a) tt (absℚ x) (absℚ X) ε))
 
 -- ---- a limit from below, or from above: of x and of X alike
 

@@ -1,23 +1,21 @@
--- The error calculus: the absolute value, and a limit from below or from above, the same one for the whole number and for the exact value.
--- Assumes nothing.
+-- The error calculus: a limit from below or from above, the same one for the whole number and for the exact value. Assumes nothing.
 use mathlib.Core.Path.{_≡_, refl, sym, _∙_, ap}
 use mathlib.Core.Bool.{Bool, true, false, not, cond}
 use lib.Dec.{T}
-use Prim.Native.Nat.{suc}
-use lib.IntN.{ℤ, pos, negsuc}
+use lib.IntN.{ℤ, pos}
 use lib.Signed.{ltZ, leZ}
-use Rattle.numbers.specs.Whole.{absℤ, at-leastℤ, at-mostℤ}
+use Rattle.numbers.specs.Whole.{at-leastℤ, at-mostℤ}
 use Rattle.numbers.specs.Solver.{_:-_, _:*_, :-_, _:=_}
-use Rattle.numbers.specs.Ratios.{Ratio, nonnegᴿ, posᴿ}
-use Rattle.numbers.specs.Fractions.{ℚ, fraction, fromℤ, _*ℚ_, -ℚ_, _-ℚ_, inverse, nonneg, _<ℚ_, absℚ, at-leastℚ, at-mostℚ}
+use Rattle.numbers.specs.Ratios.{Ratio, posᴿ}
+use Rattle.numbers.specs.Fractions.{ℚ, fraction, fromℤ, _*ℚ_, -ℚ_, _-ℚ_, inverse, nonneg, _<ℚ_, at-leastℚ, at-mostℚ}
 use Rattle.numbers.specs.Congruence.{bool-equal}
 use Rattle.numbers.proofs.FractionSolver.{ringℚ, from-multipleℚ, _#_}
-use Rattle.numbers.proofs.Order.{NonNeg, nonneg-mul, nonneg-ratio, nonneg-eq, nonneg-of, <ℚ-ratio, <ℚ-≤ℚ}
-use Rattle.numbers.proofs.WholeFractions.{nonneg-ℕ, fromℤ-neg, fromℤ-test}
+use Rattle.numbers.proofs.Order.{nonneg-mul, nonneg-eq, nonneg-of, <ℚ-ratio, <ℚ-≤ℚ}
+use Rattle.numbers.proofs.WholeFractions.{fromℤ-test}
 use Rattle.numbers.proofs.Inverse.{*ℚ-inverse, nonneg-inverse-of}
 use Rattle.numbers.proofs.IntegerOrder.{leZ-is}
-use Rattle.numbers.proofs.Bounds.{Bounded, bounded-nonneg, abs-bounded, abs-negative, abs-nonneg, abs-is-nonneg}
-use Rattle.numbers.proofs.Near.{near-eq, near-absolute, near-limit-below, near-limit-above}
+use Rattle.numbers.proofs.Bounds.{Bounded}
+use Rattle.numbers.proofs.Near.{near-eq, near-limit-below, near-limit-above}
 use Rattle.numbers.proofs.Rounded.{Rounded}
 
 nonneg-of-multiple : (x : ℚ) {c : ℚ} → fromℤ (pos 0) <ℚ c → nonneg (x *ℚ c) ≡ nonneg x
@@ -65,20 +63,3 @@ module _ {z : ℤ} {u : Ratio} {X : ℚ} {a ε : Ratio} (l : ℤ) (hu : T (pos�
             ∙ ap (λ (b : Bool). cond b (fromℤ z *ℚ fraction u) (fromℤ l *ℚ fraction u)) (sym (test-in-units z l u hu ∙ leZ-is l z))) refl
             (near-limit-above (fromℤ l *ℚ fraction u) (p .near));
       }
-
--- ---- the absolute value
-
-absolute-in-units : (z : ℤ) (v : ℚ) → NonNeg v → fromℤ (absℤ z) *ℚ v ≡ absℚ (fromℤ z *ℚ v)
-absolute-in-units (pos n) v h = sym (abs-nonneg (nonneg-mul (nonneg-ℕ n) h))
-absolute-in-units (negsuc n) v h =
-    sym
-    (ap absℚ (ap (λ (x : ℚ). x *ℚ v) (fromℤ-neg (pos (suc n))) ∙ ringℚ 2 (λ x v. :- x :* v := :- (x :* v)) tt (fromℤ (pos (suc n))) v)
-    ∙ abs-negative (fromℤ (pos (suc n)) *ℚ v)
-    ∙ abs-nonneg (nonneg-mul (nonneg-ℕ (suc n)) h))
-
-pub absolute-rounded : {z : ℤ} {u : Ratio} {X : ℚ} {a ε : Ratio} → T (nonnegᴿ u) → Rounded z u X a ε → Rounded (absℤ z) u (absℚ X) a ε
-absolute-rounded {z} {u} {X} hu p =
-    record {
-      size = bounded-nonneg (abs-is-nonneg X) (abs-bounded (p .size));
-      near = near-eq (absolute-in-units z (fraction u) (nonneg-ratio u hu)) refl (near-absolute (p .near));
-    }

@@ -2,7 +2,7 @@
 use mathlib.Core.Bool.{cond}
 use Prim.Native.Nat.{ℕ, zero, suc, _+_, _*_, _≤_, _<_}
 use lib.Dec.{leb}
-use lib.IntN.{ℤ, pos, negsuc, negℤ, _+ℤ_, _*ℤ_, natAbs}
+use lib.IntN.{ℤ, pos, negsuc, negℤ, _+ℤ_, _*ℤ_}
 use lib.Signed.{ltZ, quotZ, shrZ}
 
 infixl 7 _÷↓_ _÷0_
@@ -18,10 +18,6 @@ x ÷0 y = quotZ x y
 -- to the nearest whole number, halves up
 abbrev pub nearestQuotient : ℤ → ℤ → ℤ
 nearestQuotient x y = (pos 2 *ℤ x +ℤ y) ÷↓ (pos 2 *ℤ y)
-
--- x without its sign
-abbrev pub absℤ : ℤ → ℤ
-absℤ x = pos (natAbs x)
 
 -- x, or the limit where x is below it
 abbrev pub at-leastℤ : ℤ → ℤ → ℤ

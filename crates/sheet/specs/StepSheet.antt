@@ -5,7 +5,7 @@ use mathlib.Core.List.{List, [], _∷_}
 use Prim.Native.Nat.{zero, suc}
 use lib.IntN.{ℤ, pos, negsuc, _+ℤ_, _-ℤ_, _*ℤ_}
 use lib.Signed.{ltZ, leZ}
-use Rattle.numbers.specs.Whole.{_÷↓_, _÷0_, nearestQuotient, absℤ, wholeRoot, at-leastℤ, at-mostℤ}
+use Rattle.numbers.specs.Whole.{_÷↓_, _÷0_, nearestQuotient, wholeRoot, at-leastℤ, at-mostℤ}
 use Rattle.sheet.specs.declared.Readings.{Readings}
 use Rattle.sheet.specs.declared.Entries.{Entries}
 use Rattle.sheet.specs.declared.Earlier.{Earlier}
@@ -33,9 +33,9 @@ V7 f = V6 f *ℤ U f ÷↓ pos 100_000
 
 -- ---- Vapour pressure e = (V8 - 1,900 × |f + 160| + 1,316,000) × 338,639/100,000, down; ea at the dew point.
 
--- 10⁻⁹ kPa
+-- 10⁻⁹ kPa; f + 160 is above zero, and without the absolute value (02, W6)
 unfoldable pub e : ℤ → ℤ
-e f = (V8 f -ℤ pos 1_900 *ℤ absℤ (f +ℤ pos 160) +ℤ pos 1_316_000) *ℤ pos 338_639 ÷↓ pos 100_000
+e f = (V8 f -ℤ pos 1_900 *ℤ (f +ℤ pos 160) +ℤ pos 1_316_000) *ℤ pos 338_639 ÷↓ pos 100_000
 
 -- ---- Slope D = V7/5 down, less 116,000, at m. Latent heat M = 15,006,000 - 787(m - 320).
 
@@ -59,10 +59,6 @@ w1 D g = pos 1_000_000_000 *ℤ D ÷↓ (D +ℤ g)
 
 unfoldable pub w2 : ℤ → ℤ → ℤ
 w2 D g = pos 1_000_000_000 -ℤ w1 D g
-
--- refusal 11: "D + g of the sheet below 1", at the mean and the pressure
-unfoldable pub sumBelowOne : ℤ → ℤ → Bool
-sumBelowOne m p = ltZ (D m +ℤ g p (M m)) (pos 1)
 
 -- ---- Clear-day Q = 10⁹c1 + 10⁶c2·d + 10⁵c3·d² + 10³c4·d³ + c5·d⁴. Office: if below 10⁹ × minimum, that is Q. Refusal 10: 10⁸s > 2Q.
 

@@ -29,17 +29,6 @@ pub fn rounded(a: i64, heat: i64) -> i64
     numbers::quotient(2 * (23_622 * a) + whole, 2 * whole)
 }
 
-// Refusal 11, at the mean and the pressure.
-pub fn sum_below_one(m: i64, p: i64) -> bool
-    requires { ⌜ InRange quantities.temperature m × InRange quantities.pressure p ⌝ }
-    ensures { λ r. ⌜ r ≡ sheet.sumBelowOne m p ⌝ }
-{
-    let d = crate::temperature::slope(m);
-    let heat = crate::temperature::latent_heat(m);
-    let g = crate::weights::psychrometric(p, heat);
-    d + g < 1
-}
-
 // The figure of the heat and the drying, weighed at the mean and the pressure.
 pub fn weighed(m: i64, p: i64, h: i64, t: i64) -> i64
     requires { ⌜ InRange quantities.temperature m × InRange quantities.pressure p × InRange quantities.heat h × InRange quantities.drying t ⌝ }

@@ -14,7 +14,7 @@ pub fn fourth_power(f: i64) -> i64
     v2 * v2 / 1_000_000_000
 }
 
-// e, at the temperature f. From -94 on, f + 160 is above zero, and is its own absolute value.
+// e, at the temperature f.
 pub fn vapour_pressure(f: i64) -> i64
     requires { ⌜ InRange quantities.temperature f ⌝ }
     ensures { λ r. ⌜ (r ≡ sheet.e f) × InRange quantities.vapourPressure r ⌝ }

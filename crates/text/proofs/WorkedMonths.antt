@@ -69,7 +69,7 @@ days : Worked station december31 noMean Figure 298
     × Worked station february28 noMean Figure 535
     × Worked station february29 (oneMean 400) Figure 523
     × Worked station march1 means Estimated 519
-unfolding curveAt rounded arcSum arcSums sinSum bellSums expSum sumTo more lacksDewPoint asJudged withMark entriesOf holds isDate yearLength readingsOf clearOf meansOf earlierOf sheet.sumOf sheet.clearSum sheet.Q sheet.aboveTwiceClear sheet.sumBelowOne sheet.U sheet.V2 sheet.V4 sheet.V6 sheet.V7 sheet.V8 sheet.e sheet.D sheet.M sheet.g sheet.w1 sheet.w2 sheet.ρ sheet.K sheet.N sheet.fourthPower sheet.B sheet.emittance sheet.Rb sheet.S sheet.Rn sheet.soilHeat sheet.H sheet.countedWind sheet.Wf sheet.«V» sheet.T sheet.drying sheet.A sheet.Figure
+unfolding curveAt rounded arcSum arcSums sinSum bellSums expSum sumTo more lacksDewPoint asJudged withMark entriesOf standingOf holds isDate yearLength readingsOf clearOf meansOf earlierOf sheet.sumOf sheet.clearSum sheet.Q sheet.aboveTwiceClear sheet.U sheet.V2 sheet.V4 sheet.V6 sheet.V7 sheet.V8 sheet.e sheet.D sheet.M sheet.g sheet.w1 sheet.w2 sheet.ρ sheet.K sheet.N sheet.fourthPower sheet.B sheet.emittance sheet.Rb sheet.S sheet.Rn sheet.soilHeat sheet.H sheet.countedWind sheet.Wf sheet.«V» sheet.T sheet.drying sheet.A sheet.Figure
 days =
     let t = at 348_480_992 260_022_891 400_024_376 7_390_889 in
     let u = at 349_274_348 260_064_499 400_212_234 7_000_425 in

@@ -1,12 +1,10 @@
 -- `sheet::temperature::vapour_pressure` meets its contract: each step, as an expression of V4 and the temperature, is safe in their ranges.
 -- Assumes nothing.
-use mathlib.Core.Path.{_≡_, refl, ap, ap₂, _∙_, subst}
+use mathlib.Core.Path.{ap, _∙_}
 use mathlib.Core.List.{[], _∷_}
 use borrow.Author.Needs.{needs}
-use Prim.Native.Nat.{ℕ}
-use lib.IntN.{ℤ, pos, negsuc, _+ℤ_, _-ℤ_, _*ℤ_}
-use Rattle.numbers.specs.Ranges.{Range, InRange, from_to_}
-use Rattle.numbers.specs.Whole.{_÷↓_, absℤ}
+use lib.IntN.{ℤ, pos, _+ℤ_, _-ℤ_, _*ℤ_}
+use Rattle.numbers.specs.Whole.{_÷↓_}
 use Rattle.numbers.proofs.Reflection.{MachineExpression, arg, lit, _+ᵐ_, _-ᵐ_, _*ᵐ_, _÷↓ᵐ_, Given, none, _and_, fits, divides, equal-in}
 use Rattle.sheet.specs.Quantities as quantities
 use Rattle.sheet.specs.StepSheet.{V4, V8, e}
@@ -23,30 +21,19 @@ v8 = v4 *ᵐ v4 ÷↓ᵐ lit 1_000_000_000
 abbrev distance : MachineExpression
 distance = arg 1 +ᵐ lit 160
 
-abbrev distances : Range
-distances = from 66 to 1_451
-
 abbrev sum : MachineExpression
 sum = (v8 -ᵐ lit 1_900 *ᵐ distance) +ᵐ lit 1_316_000
 
 given : (c : tie.After-fourth-power) → Given (quantities.v4 ∷ quantities.temperature ∷ []) (c .fourth-power .result ∷ c .before .args .f ∷ [])
 given c = c .fourth-power .ensures .1 and c .before .pre and none
 
-own-absolute : {a b : ℕ} (z : ℤ) → InRange (from a to b) z → z ≡ absℤ z
-own-absolute (pos n) p = refl
-own-absolute (negsuc n) p = absurd (p .bounds)
-
-distance-is : (c : tie.After-fourth-power) → c .before .args .f +ℤ pos 160 ≡ absℤ (c .before .args .f +ℤ pos 160)
-distance-is c =
-    let p = equal-in (given c) distance distances tt in
-    own-absolute _ (subst (InRange distances) (p .0) (p .1))
-
 returns : tie.Need-returns
 unfolding V8 e
 returns c =
     let p = equal-in (given c) (sum *ᵐ lit 338_639 ÷↓ᵐ lit 100_000) quantities.vapourPressure tt in
-    let line : ℤ → ℤ → ℤ = λ v z. ((v *ℤ v ÷↓ pos 1_000_000_000) -ℤ pos 1_900 *ℤ z +ℤ pos 1_316_000) *ℤ pos 338_639 ÷↓ pos 100_000 in
-    (p .0 ∙ ap₂ line (c .fourth-power .ensures .0 ∙ ap V4 (read (c .before .pre) tt)) (distance-is c), p .1)
+    let f = c .before .args .f in
+    let line : ℤ → ℤ = λ v. ((v *ℤ v ÷↓ pos 1_000_000_000) -ℤ pos 1_900 *ℤ (f +ℤ pos 160) +ℤ pos 1_316_000) *ℤ pos 338_639 ÷↓ pos 100_000 in
+    (p .0 ∙ ap line (c .fourth-power .ensures .0 ∙ ap V4 (read (c .before .pre) tt)), p .1)
 
 pub vapour-pressure-spec : {M : Type 1} → statement M
 vapour-pressure-spec =
