@@ -18,7 +18,7 @@ const YEAR: RangeInclusive<u16> = 1_950..=2_099;
 /// Parts of a whole in the sheet's fractions.
 const BILLION: i64 = 1_000_000_000;
 
-/// A day handed in alone: its figure, or the first of 3, 6, 7, 8, 9, 10 and 11 that holds.
+/// A day handed in alone: its figure, or the first of 3, 6, 7, 8, 9 and 10 that holds.
 #[inline(never)]
 pub fn judge(station: &Station, day: &Day, earlier: &Earlier) -> Verdict {
     match figure(station, day, earlier) {
@@ -63,7 +63,6 @@ fn figure(station: &Station, day: &Day, earlier: &Earlier) -> Result<u32, u32> {
     let latent_heat = 15_006_000 - 787 * (m - 320);
     let pressure = i64::from(PRESSURE[usize::from(station.elevation)]);
     let psychrometric = 603_000_000_000 * pressure / (622 * latent_heat);
-    refuse(slope + psychrometric < 1, 11)?;
     let w1 = BILLION * slope / (slope + psychrometric);
     let w2 = BILLION - w1;
 
@@ -133,7 +132,7 @@ fn powers(f: i64) -> (i64, i64, i64) {
 fn vapour_pressure(f: i64) -> i64 {
     let (_, _, v4) = powers(f);
     let v8 = v4 * v4 / BILLION;
-    (v8 - 1_900 * (f + 160).abs() + 1_316_000) * 338_639 / 100_000
+    (v8 - 1_900 * (f + 160) + 1_316_000) * 338_639 / 100_000
 }
 
 fn slope(mean: i64) -> i64 {

@@ -16,7 +16,7 @@
  *    8   day: a reading is out of range; of a day alone, also an earlier mean that is there
  *    9   day: minimum above mean, mean above maximum, or dew point above maximum
  *   10   day: radiation above twice that of a clear day
- *   11   day: the slope of the vapour pressure curve and the psychrometric constant, D + g, are below 1 (cannot happen with readings in range)
+ *   11   given to nothing: it was a refusal of a day that no reading in range can meet, and stays free
  *   12   log: the answer buffer is shorter than needed; report: the text buffer is
  *   13   log: a field of a crop is out of range: a letter, the year, a percentage, the start day or the full day
  *
@@ -52,9 +52,9 @@ extern "C" {
  *
  * Returned, for every value of the arguments:
  *
- *   number 0                       the day has a figure: the value is the water used, in 0.0001 inch
- *   number 256                     FUORTWEM_ESTIMATED: the same, with the minimum in place of a dew point that alone was missing
- *   number 3, 6, 7, 8, 9, 10, 11   the first of these, in this order, that holds of the day; the value is 0
+ *   number 0                   the day has a figure: the value is the water used, in 0.0001 inch
+ *   number 256                 FUORTWEM_ESTIMATED: the same, with the minimum in place of a dew point that alone was missing
+ *   number 3, 6, 7, 8, 9, 10   the first of these, in this order, that holds of the day; the value is 0
  *
  * Station: its code's four letters, A to Z, as ASCII; c1 to c5 of its clear-day radiation, in units of 1, 0.001, 0.0001, 0.000001 and
  * 0.000000001 cal/cm2/d, any value; the clear-day minimum in cal/cm2/d, 50 to 200; the elevation in metres, 0 to 3,000; the wind limit in
@@ -85,7 +85,7 @@ uint64_t fuortwem_judge(
  *   number 12               the answer buffer is too short: the value is the length needed
  *
  * 5 is looked for first, then the records from the front, each for 1, 2, 3, 4 and 13 in this order, then 12.
- * A refused log leaves every byte of the answer buffer as it was. Refusals 6 to 11 of a day stand in its answer, and the log goes on.
+ * A refused log leaves every byte of the answer buffer as it was. Refusals 6 to 10 of a day stand in its answer, and the log goes on.
  *
  * In the log and in the answers, numbers of two or four bytes have the high byte first. A record of the log:
  *
@@ -104,7 +104,7 @@ uint64_t fuortwem_judge(
  *
  *   kind 5, station of either kind, 5 bytes: code (4)
  *   kind 3, day with a figure, 9 bytes: year (2), d (2), figure in 0.0001 inch (4)
- *   kind 4, day refused, 9 bytes: year (2), d (2), the refusal's number, 6 to 11 (4)
+ *   kind 4, day refused, 9 bytes: year (2), d (2), the refusal's number, 6 to 10 (4)
  *   kind 7, crop figure, 9 bytes: the crop's letters (4), figure in 0.0001 inch (4)
  *   kind 9, day with a figure whose dew point alone was missing, so that the minimum stood for it, 9 bytes: as kind 3
  *

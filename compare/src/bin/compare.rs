@@ -77,33 +77,11 @@ fn run(size: &Size) -> Result<(), String> {
     println!("tables: {} entries are the same", table_text::compare()?);
     let program = compare_program()?;
     program.print();
-    println!("{}", refusal_eleven()?);
     let days = compare_days(size)?;
     days.print();
     let logs = compare_logs(size)?;
     logs.print();
     all_reached(&days, &logs, &program)
-}
-
-/// Refusal 11 over every mean and elevation in range: nothing else enters D + g.
-fn refusal_eleven() -> Result<String, String> {
-    let sums = (0..=3_000).flat_map(|elevation| {
-        (-94..=1_291).map(move |mean| {
-            let sum = second::sheet::slope_and_psychrometric(mean, elevation);
-            (sum, mean, elevation)
-        })
-    });
-    let (least, mean, elevation) = sums.min().expect("the ranges are not empty");
-    let of = format!("D + g is {least}, at mean {mean} and elevation {elevation}");
-    if least < 1 {
-        return Err(format!(
-            "refusal 11 can be given, and no day asks for it: {of}"
-        ));
-    }
-    let all = 1_386 * 3_001;
-    Ok(format!(
-        "refusal 11 cannot be given: over all {all} means and elevations the least {of}"
-    ))
 }
 
 /// The largest difference from the equation, and the day that has it.
@@ -342,7 +320,7 @@ impl DayTally {
             self.days, self.answered, self.above_zero
         );
         println!("  {LIMITED}: {}", self.limited);
-        for number in [3, 6, 7, 8, 9, 10, 11] {
+        for number in [3, 6, 7, 8, 9, 10] {
             println!("  refusal {number}: {}", self.refused[number]);
         }
         for (reason, met) in self.refused_for_station.met(&station::REASONS) {
@@ -557,7 +535,7 @@ impl LogTally {
             self.refused[12], self.too_short_since_estimates
         );
         println!("  days in accepted logs: {}", self.days);
-        for number in [6, 7, 8, 9, 10, 11] {
+        for number in [6, 7, 8, 9, 10] {
             println!("  refusal {number}: {} days", self.days_refused[number]);
         }
         self.dew_points.print("answers of kind 9");
@@ -1199,7 +1177,7 @@ fn all_reached(days: &DayTally, logs: &LogTally, program: &ProgramTally) -> Resu
             return Err(format!("the report program met no log {kind}"));
         }
     }
-    println!("every refusal from 1 to 13 was reached, but for 11, which cannot be given");
+    println!("every refusal from 1 to 13 was reached, but for 11, which is given to nothing");
     println!(
         "every kind of report met every text buffer, and the report program every kind of log"
     );

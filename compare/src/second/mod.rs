@@ -53,7 +53,7 @@ pub fn dew_point_alone_missing(day: &Day) -> bool {
     day.dewpoint == MISSING && !other_reading_missing(day)
 }
 
-/// Refusals 7 to 11 or the figure, for a day whose date is good.
+/// Refusals 7 to 10 or the figure, for a day whose date is good.
 fn judge_dated(station: &Station, day: &Day, earlier: &Earlier) -> Verdict {
     if other_reading_missing(day) {
         return Verdict::Refused(7);
@@ -71,7 +71,7 @@ fn judge_dated(station: &Station, day: &Day, earlier: &Earlier) -> Verdict {
     }
 }
 
-/// Refusals 8 to 11 or the figure, for a day that has all its readings.
+/// Refusals 8 to 10 or the figure, for a day that has all its readings.
 fn judge_read(station: &Station, day: &Day, earlier: &Earlier) -> Verdict {
     let temperatures = [day.maximum, day.minimum, day.mean, day.dewpoint];
     let in_range = temperatures
@@ -88,8 +88,6 @@ fn judge_read(station: &Station, day: &Day, earlier: &Earlier) -> Verdict {
         Verdict::Refused(9)
     } else if 100_000_000 * i128::from(day.radiation) > 2 * sheet::clear_day(station, day.d) {
         Verdict::Refused(10)
-    } else if sheet::slope_and_psychrometric(day.mean, station.elevation) < 1 {
-        Verdict::Refused(11)
     } else {
         Verdict::Figure(sheet::figure(station, day, earlier))
     }

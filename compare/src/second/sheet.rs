@@ -24,12 +24,10 @@ fn powers(f: i128) -> (i128, i128) {
     (v7, v8)
 }
 
+/// f + 160 is above zero, and without its absolute value since W6.
 fn vapour_pressure(f: i128) -> i128 {
     let (_, v8) = powers(f);
-    down(
-        (v8 - 1_900 * (f + 160).abs() + 1_316_000) * 338_639,
-        100_000,
-    )
+    down((v8 - 1_900 * (f + 160) + 1_316_000) * 338_639, 100_000)
 }
 
 fn slope(m: i128) -> i128 {
@@ -44,12 +42,6 @@ fn latent_heat(m: i128) -> i128 {
 fn psychrometric(m: i128, elevation: u16) -> i128 {
     let p = TABLES.pressure[usize::from(elevation)];
     down(603_000_000_000 * p, 622 * latent_heat(m))
-}
-
-/// D + g, which refusal 11 asks about.
-pub fn slope_and_psychrometric(mean: i16, elevation: u16) -> i128 {
-    let m = i128::from(mean);
-    slope(m) + psychrometric(m, elevation)
 }
 
 /// Q, not below the station's minimum.
@@ -143,6 +135,7 @@ pub fn figure(station: &Station, day: &Day, earlier: &Earlier) -> u32 {
 
 #[cfg(test)]
 mod tests {
+    use super::super::TEMPERATURE;
     use super::*;
     use crate::ROUTINE_LIMIT;
 
@@ -162,6 +155,23 @@ mod tests {
         assert_eq!(absolute(320), 245_844);
         assert_eq!(latent_heat(320), 15_006_000);
         assert_eq!(psychrometric(320, 0), 65_444_240);
+    }
+
+    /// Over every accepted temperature and elevation: why there is no refusal 11 and no absolute value (W6).
+    #[test]
+    fn proved_least_values() {
+        let temperatures = || TEMPERATURE.map(i128::from);
+        let g =
+            |elevation| temperatures().map(move |m| (psychrometric(m, elevation), m, elevation));
+        assert_eq!(temperatures().map(|f| (f + 160, f)).min(), Some((66, -94)));
+        assert_eq!(
+            temperatures().map(|m| (slope(m), m)).min(),
+            Some((8_438_616, -94))
+        );
+        assert_eq!(
+            (0..=3_000).flat_map(g).min(),
+            Some((44_307_428, -94, 3_000))
+        );
     }
 
     #[test]

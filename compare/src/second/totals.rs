@@ -70,7 +70,7 @@ mod tests {
                 figure: 400,
             },
             day(2008, 60, Verdict::Figure(30)),
-            day(2008, 61, Verdict::Refused(11)),
+            day(2008, 61, Verdict::Refused(10)),
             day(2009, 32, Verdict::Figure(5)),
         ];
         let months = months(&block);

@@ -20,11 +20,11 @@ isAnswered (standing.Refused r) = false
 isAnswered standing.Answered = true
 
 -- none of the row holds
-abbrev pub NoneOf : List Refusal → (Refusal → Bool) → Type 0
+abbrev NoneOf : List Refusal → (Refusal → Bool) → Type 0
 NoneOf [] held = Unit {0}
 NoneOf (r ∷ rs) held = (held r ≡ false) × NoneOf rs held
 
-pub none-of : (rs : List Refusal) (held : Refusal → Bool) → firstOf rs held ≡ standing.Answered → NoneOf rs held
+none-of : (rs : List Refusal) (held : Refusal → Bool) → firstOf rs held ≡ standing.Answered → NoneOf rs held
 none-of [] held e = tt
 none-of (r ∷ rs) held e = let both = by (held r) refl e in (both .0, none-of rs held (both .1))
   where

@@ -23,7 +23,7 @@ use Rattle.log.specs.declared.Outcome.the-variants.{Written}
 unfoldable pub AnsweredLog : List ℕ → List ℕ → Type 0
 AnsweredLog s buffer = (n : ℕ) × (outcomeOf s (length buffer) ≡ Written n)
 
--- "none of 6 to 11 holds of the day", where 11 is none (02, W6): record i of the log is the day x of a block of `st`, its date is good, its earlier means
+-- "none of 6 to 11 holds of the day", without 11 (02, W6): record i of the log is the day x of a block of `st`, its date is good, its earlier means
 -- are those that the block's records give, and none of 7 to 10 holds of it as it is judged. Its answer is due at `place`.
 pub record AnsweredDay (s : List ℕ) (i : ℕ) (st : Station) (x : Day) (earlier : Earlier) (place : ℕ) : Type 0 where
   pub at : DayAt s i st x earlier true place

@@ -1,6 +1,6 @@
 -- `sheet::temperature::vapour_pressure` meets its contract: each step, as an expression of V4 and the temperature, is safe in their ranges.
 -- Assumes nothing.
-use mathlib.Core.Path.{ap, _∙_}
+use mathlib.Core.Path.{_≡_, refl, ap, _∙_}
 use mathlib.Core.List.{[], _∷_}
 use borrow.Author.Needs.{needs}
 use lib.IntN.{ℤ, pos, _+ℤ_, _-ℤ_, _*ℤ_}
@@ -27,13 +27,19 @@ sum = (v8 -ᵐ lit 1_900 *ᵐ distance) +ᵐ lit 1_316_000
 given : (c : tie.After-fourth-power) → Given (quantities.v4 ∷ quantities.temperature ∷ []) (c .fourth-power .result ∷ c .before .args .f ∷ [])
 given c = c .fourth-power .ensures .1 and c .before .pre and none
 
-returns : tie.Need-returns
+-- e, of V4 and the temperature
+abbrev line : ℤ → ℤ → ℤ
+line v f = ((v *ℤ v ÷↓ pos 1_000_000_000) -ℤ pos 1_900 *ℤ (f +ℤ pos 160) +ℤ pos 1_316_000) *ℤ pos 338_639 ÷↓ pos 100_000
+
+line-is : (f : ℤ) → line (V4 f) f ≡ e f
 unfolding V8 e
+line-is f = refl
+
+returns : tie.Need-returns
 returns c =
-    let p = equal-in (given c) (sum *ᵐ lit 338_639 ÷↓ᵐ lit 100_000) quantities.vapourPressure tt in
     let f = c .before .args .f in
-    let line : ℤ → ℤ = λ v. ((v *ℤ v ÷↓ pos 1_000_000_000) -ℤ pos 1_900 *ℤ (f +ℤ pos 160) +ℤ pos 1_316_000) *ℤ pos 338_639 ÷↓ pos 100_000 in
-    (p .0 ∙ ap line (c .fourth-power .ensures .0 ∙ ap V4 (read (c .before .pre) tt)), p .1)
+    let p = equal-in (given c) (sum *ᵐ lit 338_639 ÷↓ᵐ lit 100_000) quantities.vapourPressure tt in
+    (p .0 ∙ ap (λ (v : ℤ). line v f) (c .fourth-power .ensures .0 ∙ ap V4 (read (c .before .pre) tt)) ∙ line-is f, p .1)
 
 pub vapour-pressure-spec : {M : Type 1} → statement M
 vapour-pressure-spec =
