@@ -16,7 +16,7 @@
  *    8   day: a reading is out of range; of a day alone, also an earlier mean that is there
  *    9   day: minimum above mean, mean above maximum, or dew point above maximum
  *   10   day: radiation above twice that of a clear day
- *   11   given to nothing: it was a refusal of a day that no reading in range can meet, and stays free
+ *   11   not used: it was a refusal of a day, which no readings in range can meet, and is given to nothing else
  *   12   log: the answer buffer is shorter than needed; report: the text buffer is
  *   13   log: a field of a crop is out of range: a letter, the year, a percentage, the start day or the full day
  *

@@ -24,7 +24,7 @@ fn powers(f: i128) -> (i128, i128) {
     (v7, v8)
 }
 
-/// f + 160 is above zero, and without its absolute value since W6.
+/// Without the absolute value since W6: f + 160 is above zero at every temperature in range.
 fn vapour_pressure(f: i128) -> i128 {
     let (_, v8) = powers(f);
     down((v8 - 1_900 * (f + 160) + 1_316_000) * 338_639, 100_000)

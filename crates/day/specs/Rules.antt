@@ -15,8 +15,8 @@ use Rattle.day.specs.declared.Station.{Station}
 use Rattle.day.specs.declared.Refusal.{Refusal}
 use Rattle.day.specs.declared.Refusal.the-variants.{StationField, BadDate, Missing, OutOfRange, OutOfOrder, AboveClear}
 
--- the document's number of each refusal. 11 was "D + g of the sheet below 1", which no day can meet (proofs/LeastValues.antt). It went with 02, W6, and
--- the number is not given to anything else.
+-- the document's number of each refusal. 11 was "D + g of the sheet below 1", which never holds of a day that the others let through. It went with
+-- 02, W6, and the number is not given to anything else (proofs/WithEleven.antt).
 abbrev pub numberOf : Refusal → ℕ
 numberOf StationField = 3
 numberOf BadDate = 6

@@ -33,7 +33,7 @@ V7 f = V6 f *ℤ U f ÷↓ pos 100_000
 
 -- ---- Vapour pressure e = (V8 - 1,900 × |f + 160| + 1,316,000) × 338,639/100,000, down; ea at the dew point.
 
--- 10⁻⁹ kPa; f + 160 is above zero, and without the absolute value (02, W6)
+-- 10⁻⁹ kPa; without the absolute value (02, W6), since f + 160 is above zero at every accepted temperature
 unfoldable pub e : ℤ → ℤ
 e f = (V8 f -ℤ pos 1_900 *ℤ (f +ℤ pos 160) +ℤ pos 1_316_000) *ℤ pos 338_639 ÷↓ pos 100_000
 

@@ -1,5 +1,5 @@
--- The range of each table's value at every index, with no code in the statements: what the error bound needs of the entries. The pressure's value is a
--- search, and its range follows from its largest and its smallest ratio. Assumes nothing.
+-- The range of each table's value at every index, with no code in the statements: what the error bound needs of the entries; and the least pressure,
+-- of which g is least. The pressure's value is a search, and its range follows from its largest and its smallest ratio. Assumes nothing.
 use Prim.Native.Nat.{ℕ, suc, _+_, _*_, _^_, _≤_, _<_}
 use native.Mathlib.Nat.{le-trans, lt-of-lt-of-le, lt-irrefl, mul-le-mul-right, pow-le-pow-left}
 use native.Mathlib.Omega.{arith}
