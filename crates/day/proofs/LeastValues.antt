@@ -3,18 +3,19 @@
 use mathlib.Core.Path.{_≡_, refl, sym, ap}
 use Prim.Native.Nat.{ℕ, _≤_}
 use native.Mathlib.Omega.{arith}
-use lib.Dec.{lit≤, le→leb}
+use lib.Dec.{lit≤}
 use lib.IntN.{ℤ, pos, negsuc, _+ℤ_}
-use lib.Signed.{_≤ℤ_, leZ-yes}
+use lib.Signed.{_≤ℤ_}
 use Rattle.numbers.specs.Ranges.{InRange, from_to_}
-use Rattle.numbers.proofs.Reflection.{MachineExpression, arg, lit, _+ᵐ_, _-ᵐ_, _*ᵐ_, _÷↓ᵐ_, none, _and_, meaning-in}
+use Rattle.numbers.proofs.Reflection.{arg, none, _and_, meaning-in}
 use Rattle.tables.specs.Values.{pressureAt}
 use Rattle.tables.proofs.PowerTests.{powerTest, upper, lower, tenthUp, tenthDown}
 use Rattle.tables.proofs.PressureEntries.{pressure-is}
 use Rattle.tables.proofs.ValueRanges.{leastPressure, pressure-least, pressure-in}
-use Rattle.sheet.proofs.Powers.{v7}
+use Rattle.sheet.proofs.Lines.{distance, slope, latentHeat, psychrometric}
 use Rattle.sheet.specs.Limits.{temperature}
 use Rattle.sheet.specs.StepSheet.{U, V2, V4, V6, V7, D, M, g}
+use Rattle.equation.proofs.Ends.{from-ends}
 
 -- over what is accepted, a line of the sheet is nowhere below its least value, and somewhere it is that
 pub record LeastIs {A : Type 0} (Accepted : A → Type 0) (line : A → ℤ) (least : ℕ) : Type 0 where
@@ -33,22 +34,7 @@ pub record PlaceAccepted (x : Place) : Type 0 where
 abbrev pub gAt : Place → ℤ
 gAt x = g (pos (pressureAt (x .elevation))) (M (x .mean))
 
--- ---- the lines as expressions, whose ranges are computed
-
-abbrev distance : MachineExpression
-distance = arg 0 +ᵐ lit 160
-
-abbrev slope : MachineExpression
-slope = (v7 (arg 0) ÷↓ᵐ lit 5) -ᵐ lit 116_000
-
-abbrev psychrometric : MachineExpression
-psychrometric = lit 603_000_000_000 *ᵐ arg 1 ÷↓ᵐ (lit 622 *ᵐ (lit 15_006_000 -ᵐ lit 787 *ᵐ (arg 0 -ᵐ lit 320)))
-
-from-low : {a b : ℕ} {z : ℤ} → InRange (from a to b) z → pos a ≤ℤ z
-from-low {a} {z = pos n} p = leZ-yes (le→leb a n (p .bounds .0))
-from-low {z = negsuc n} p = absurd (p .bounds)
-
--- ---- the least values
+-- ---- the least values, each the low end of the range that its line has as an expression
 
 coldest : InRange temperature (negsuc 93)
 coldest = record { bounds = omega arith }
@@ -60,7 +46,7 @@ highest = pressure-is 3000 leastPressure (lit≤ tt) tt
 pub distance-least : LeastIs (InRange temperature) (λ f. f +ℤ pos 160) 66
 distance-least =
     record {
-      nowhere-below = λ f p. from-low (meaning-in (p and none) distance (from 66 to 1_451) tt);
+      nowhere-below = λ f p. from-ends 66 1_451 (meaning-in (p and none) (distance (arg 0)) (from 66 to 1_451) tt) .low;
       somewhere = (negsuc 93, coldest, refl);
     }
 
@@ -68,7 +54,7 @@ pub slope-least : LeastIs (InRange temperature) D 8_438_616
 unfolding U V2 V4 V6 V7 D
 slope-least =
     record {
-      nowhere-below = λ m p. from-low (meaning-in (p and none) slope (from 8_438_616 to 739_014_823) tt);
+      nowhere-below = λ m p. from-ends 8_438_616 739_014_823 (meaning-in (p and none) (slope (arg 0)) (from 8_438_616 to 739_014_823) tt) .low;
       somewhere = (negsuc 93, coldest, refl);
     }
 
@@ -78,7 +64,7 @@ module _ (x : Place) (p : PlaceAccepted x) where
 
   g-from : pos 44_307_428 ≤ℤ gAt x
   unfolding M g
-  g-from = from-low (meaning-in (p .mean and pressure-from and none) psychrometric (from 44_307_428 to 68_955_798) tt)
+  g-from = from-ends 44_307_428 68_955_798 (meaning-in (p .mean and pressure-from and none) (psychrometric (arg 1) (latentHeat (arg 0))) (from 44_307_428 to 68_955_798) tt) .low
 
 pub psychrometric-least : LeastIs PlaceAccepted gAt 44_307_428
 unfolding M g

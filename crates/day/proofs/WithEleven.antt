@@ -17,7 +17,7 @@ use Rattle.sheet.specs.Accepted.{ReadingsInRange}
 use Rattle.sheet.specs.Limits.{temperature}
 use Rattle.sheet.specs.StepSheet as sheet
 use Rattle.sheet.specs.declared.Entries.{Entries}
-use Rattle.day.specs.Judgement.{readingsOf, entriesOf, clearOf, earlierOf, figureOf, standingOf, asJudged, withMark, verdictWith, judged, holds, Answered}
+use Rattle.day.specs.Judgement.{readingsOf, entriesOf, clearOf, earlierOf, figureOf, standingOf, asJudged, withMark, verdictWith, judged, Answered}
 use Rattle.day.specs.Rules.{numberOf}
 use Rattle.day.specs.declared.Station.{Station}
 use Rattle.day.specs.declared.Day.{Day}
@@ -86,18 +86,15 @@ not-below-one (negsuc m) y l h k = absurd (h .le)
 not-below-one (pos m) (negsuc n) l h k = absurd (k .le)
 
 module _ (st : Station) (x : Day) (earlier : Earlier) (answered : standingOf st x earlier ≡ standing.Answered) where
-  none-holds : (r : Refusal) → holds r st x earlier ≡ false
-  unfolding Answered
-  none-holds = stands-answered st x earlier answered
-
   readings : ReadingsInRange (readingsOf x)
-  readings = readings-in st x earlier (none-holds OutOfRange)
+  unfolding Answered
+  readings = readings-in st x earlier (stands-answered st x earlier answered OutOfRange)
 
   pub eleven-never : elevenHeld st x ≡ false
-  unfolding elevenHeld readingsOf
+  unfolding elevenHeld readingsOf Answered
   eleven-never =
       let place : Place = record { mean = x .mean; elevation = st .elevation } in
-      let accepted : PlaceAccepted place = record { mean = readings .mean; elevation = elevation-high st x earlier (none-holds StationField) } in
+      let accepted : PlaceAccepted place = record { mean = readings .mean; elevation = elevation-high st x earlier (stands-answered st x earlier answered StationField) } in
       not-below-one (sheet.D (x .mean)) (gAt place) (lit≤ tt) (slope-least .nowhere-below (x .mean) (readings .mean)) (psychrometric-least .nowhere-below place accepted)
 
   figure-same : figureBefore st x earlier ≡ figureOf st x earlier

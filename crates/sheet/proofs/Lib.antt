@@ -2,4 +2,4 @@
 pub mod Values
 pub mod Choices
 pub mod Laws
-pub mod Powers
+pub mod Lines

@@ -3,7 +3,7 @@ use mathlib.Core.List.{[], _∷_}
 use Rattle.numbers.proofs.Reflection.{MachineExpression, arg, lit, _*ᵐ_, Given, none, _and_, fits, divides, equal-in}
 use Rattle.sheet.specs.Quantities as quantities
 use Rattle.sheet.specs.StepSheet.{U, V2, V4}
-use Rattle.sheet.proofs.Powers.{u, v2, v4}
+use Rattle.sheet.proofs.Lines.{u, v2, v4}
 use Rattle.sheet.proofs.temperature.fourth_power.Statement.{statement}
 use Rattle.sheet.proofs.temperature.fourth_power.Tie as tie
 

@@ -8,6 +8,7 @@ use Rattle.numbers.specs.Whole.{_÷↓_}
 use Rattle.numbers.proofs.Reflection.{MachineExpression, arg, lit, _+ᵐ_, _-ᵐ_, _*ᵐ_, _÷↓ᵐ_, Given, none, _and_, fits, divides, equal-in}
 use Rattle.sheet.specs.Quantities as quantities
 use Rattle.sheet.specs.StepSheet.{V4, V8, e}
+use Rattle.sheet.proofs.Lines.{distance}
 use Rattle.sheet.proofs.Values.{read}
 use Rattle.sheet.proofs.temperature.vapour_pressure.Statement.{statement}
 use Rattle.sheet.proofs.temperature.vapour_pressure.Tie as tie
@@ -18,11 +19,11 @@ v4 = arg 0
 abbrev v8 : MachineExpression
 v8 = v4 *ᵐ v4 ÷↓ᵐ lit 1_000_000_000
 
-abbrev distance : MachineExpression
-distance = arg 1 +ᵐ lit 160
+abbrev f : MachineExpression
+f = arg 1
 
 abbrev sum : MachineExpression
-sum = (v8 -ᵐ lit 1_900 *ᵐ distance) +ᵐ lit 1_316_000
+sum = (v8 -ᵐ lit 1_900 *ᵐ distance f) +ᵐ lit 1_316_000
 
 given : (c : tie.After-fourth-power) → Given (quantities.v4 ∷ quantities.temperature ∷ []) (c .fourth-power .result ∷ c .before .args .f ∷ [])
 given c = c .fourth-power .ensures .1 and c .before .pre and none
@@ -48,9 +49,9 @@ vapour-pressure-spec =
     (λ c κs. search needs)
     (λ c. fits (given c) (v4 *ᵐ v4) tt)
     (λ c. divides (given c) (v4 *ᵐ v4) (lit 1_000_000_000) tt)
-    (λ c. fits (given c) distance tt)
-    (λ c. fits (given c) (lit 1_900 *ᵐ distance) tt)
-    (λ c. fits (given c) (v8 -ᵐ lit 1_900 *ᵐ distance) tt)
+    (λ c. fits (given c) (distance f) tt)
+    (λ c. fits (given c) (lit 1_900 *ᵐ distance f) tt)
+    (λ c. fits (given c) (v8 -ᵐ lit 1_900 *ᵐ distance f) tt)
     (λ c. fits (given c) sum tt)
     (λ c. fits (given c) (sum *ᵐ lit 338_639) tt)
     (λ c. divides (given c) (sum *ᵐ lit 338_639) (lit 100_000) tt)
