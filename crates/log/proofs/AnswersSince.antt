@@ -4,7 +4,7 @@ use mathlib.Core.Bool.{Bool, true, false, cond}
 use mathlib.Core.List.{List, [], _∷_, _++_}
 use mathlib.Core.Logic.{_≢_}
 use mathlib.Core.Path.{_≡_, refl, sym, ap, subst, _∙_}
-use Prim.Native.Nat.{_+_, _*_}
+use Prim.Native.Nat.{ℕ, _+_, _*_}
 use native.Mathlib.Omega.{arith}
 use lib.Dec.{T}
 use lib.ListN.{length}
@@ -20,11 +20,11 @@ use Rattle.day.specs.declared.Verdict.{Verdict}
 use Rattle.day.specs.declared.Verdict.the-variants as verdict
 use Rattle.day.proofs.WithoutSubstitute as day-since
 use Rattle.log.specs.History.{goodDate, earlierMeans, verdictOf}
-use Rattle.log.specs.Log.{BlockRead, Entry, station, day, crop, cropAnswers, answersFor, answersBy, answersOf}
-use Rattle.log.specs.WithoutSubstitute.{verdictStrictly, answersStrictly, Stays, AllStay, addedTo}
+use Rattle.log.specs.Log.{BlockRead, Entry, day, byDay, cropAnswers, answersFor, answersBy, answersOf}
+use Rattle.log.specs.WithoutSubstitute.{verdictStrictly, dayStrictly, answersStrictly, Stays, AllStay, addedAt, addedTo}
 use Rattle.log.proofs.Carried.{none-refused}
 use Rattle.log.proofs.Counted.{answers-longer}
-use Rattle.log.proofs.Placed.{one-most}
+use Rattle.log.proofs.Laws.{one-most, by-day}
 
 -- ---- a day
 
@@ -67,9 +67,10 @@ abbrev ofDay : BlockRead → Day → Verdict → List Answer
 ofDay b y v = dayAnswer y v ∷ cropAnswers (b .crop) y v
 
 pub answers-stay : (e : Entry) → Stays e → answersFor e ≡ answersStrictly e
-answers-stay (station x) stays = refl
-answers-stay (day b y) stays = ap (ofDay b y) (verdict-stays (b .station) (b .days) y stays)
-answers-stay (crop b c) stays = refl
+answers-stay =
+    by-day (λ (e : Entry). Stays e → answersFor e ≡ answersStrictly e)
+    (λ b y stays. ap (ofDay b y) (verdict-stays (b .station) (b .days) y (stays b y refl)))
+    (λ e other stays. sym (other (List Answer) dayStrictly (answersFor e)))
 
 pub substituted : (b : BlockRead) (y : Day) → goodDate (b .days) y ≡ true → lacksDewPoint y ≡ true
     → let v = estimated (judgedStrictly (b .station) (withMinimum y) (earlierMeans (b .days) y)) in answersFor (day b y) ≡ dayAnswer y v ∷ cropAnswers (b .crop) y v
@@ -85,17 +86,20 @@ longer b y true e =
       arith,
       ap (λ (v : Verdict). length (bytesOf (cropAnswers (b .crop) y v))) (refused-then .1),
       ap (λ (l : List Answer). length (bytesOf l)) (none-refused (b .crop) y (refused-then .0)),
-      one-most (b .crop) y (verdictOf (b .station) (b .days) y) .1,
+      one-most (b .crop) y (verdictOf (b .station) (b .days) y) .nine,
     )
 longer b y false e =
     omega (arith, ap (λ (v : Verdict). length (bytesOf (ofDay b y v))) (verdict-stays (b .station) (b .days) y (λ lacks. absurd (subst T (sym lacks ∙ e) tt))))
 
+one-longer : (e : Entry) → length (bytesOf (answersFor e)) ≡ length (bytesOf (answersStrictly e)) + 9 * byDay addedAt 0 e
+one-longer =
+    by-day (λ (e : Entry). length (bytesOf (answersFor e)) ≡ length (bytesOf (answersStrictly e)) + 9 * byDay addedAt 0 e)
+    (λ b y. longer b y (lacksDewPoint y) refl)
+    (λ e other. omega (arith, ap (λ (l : List Answer). length (bytesOf l)) (other (List Answer) dayStrictly (answersFor e)), other ℕ addedAt 0))
+
 pub all-longer : (es : List Entry) → length (bytesOf (answersOf es)) ≡ length (bytesOf (answersBy answersStrictly es)) + 9 * addedTo es
 all-longer [] = refl
-all-longer (station x ∷ es) = omega (arith, all-longer es, answers-longer answersStrictly (station x) es, answers-longer answersFor (station x) es)
-all-longer (day b y ∷ es) =
-    omega (arith, longer b y (lacksDewPoint y) refl, all-longer es, answers-longer answersStrictly (day b y) es, answers-longer answersFor (day b y) es)
-all-longer (crop b c ∷ es) = omega (arith, all-longer es)
+all-longer (e ∷ es) = omega (arith, one-longer e, all-longer es, answers-longer answersStrictly e es, answers-longer answersFor e es)
 
 pub all-stay : (es : List Entry) → AllStay es → answersOf es ≡ answersBy answersStrictly es
 all-stay [] stay = refl

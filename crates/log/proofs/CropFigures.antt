@@ -25,7 +25,8 @@ use Rattle.log.specs.Log.{Planted, planted, cropAnswer, cropAnswers, buf
 use Rattle.log.specs.declared.Outcome.{Outcome}
 use Rattle.log.proofs.Days.{answer-at, crop-answer-at}
 use Rattle.log.proofs.Demand.{marked-bytes, answered, log-within-bound}
-use Rattle.log.proofs.Stations.{station-sound, station-constants, crop-faultless}
+use Rattle.log.proofs.Kept.{station-constants}
+use Rattle.log.proofs.Stations.{station-sound, crop-faultless}
 
 -- a mark hides no figure
 one-figure : (x : Day) {n m : ℕ} → withMark x n ≡ withMark x m → n ≡ m

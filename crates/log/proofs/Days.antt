@@ -1,7 +1,7 @@
--- What is known of a day record of a log: its answer stands at its place (`answer-at`), its crop's figure behind it (`crop-answer-at`), and a good date
--- is one of the calendar (`good-date`). Assumes nothing.
+-- What is known of a day record of a log: its answer stands at its place (`answer-at`), and its crop's figure behind it (`crop-answer-at`). Assumes
+-- nothing.
 use mathlib.Core.Path.{_≡_, refl, sym, ap, _∙_}
-use mathlib.Core.Bool.{Bool, true, false, cond}
+use mathlib.Core.Bool.{Bool, true}
 use mathlib.Core.List.{List, [], _∷_, _++_, append-assoc, append-nil}
 use Prim.Native.Nat.{ℕ, _+_}
 use native.Mathlib.Omega.{arith}
@@ -14,13 +14,14 @@ use Rattle.day.specs.declared.Station.{Station}
 use Rattle.day.specs.declared.Verdict.{Verdict}
 use Rattle.answers.specs.Answers.{dayAnswer, answerBytes, bytesOf}
 use Rattle.log.specs.Days.{DayAt, verdictAt}
-use Rattle.log.specs.History.{afterLast, goodDate, verdictOf}
-use Rattle.log.specs.Log.{day, cropAnswers, answersFor, answersTo, answersOf, Reading, entriesOf, outcomeOf, leaves, bufferAfter}
+use Rattle.log.specs.History.{verdictOf}
+use Rattle.log.specs.Log.{unopened, day, pastAll, cropAnswers, answersFor, answersOf, answersAtEnd, answersIn, answersTo, Reading, outcomeOf, leaves, bufferAfter}
 use Rattle.log.specs.declared.Outcome.{Outcome}
 use Rattle.log.specs.declared.Outcome.the-variants.{Written}
 use Rattle.answers.specs.declared.Answer.{Answer}
 use Rattle.answers.proofs.Bytes.{bytes-append}
-use Rattle.log.proofs.Walked.{answers-append}
+use Rattle.log.proofs.Carried.{good-date}
+use Rattle.log.proofs.Walked.{answers-append, all-bytes}
 
 -- ---- the answer
 
@@ -30,14 +31,6 @@ nine-at : (before bytes rest : List ℕ) {place : ℕ} → length bytes ≡ 9 �
 nine-at before bytes rest {place} l p = ap (take 9) (drop-at before (bytes ++ rest) place (sym p)) ∙ take-at bytes rest 9 l
 
 -- ---- a day record
-
-pub good-date : (h : List Day) (x : Day) → goodDate h x ≡ true → isDate (x .year) (x .d) ≡ true
-unfolding goodDate
-good-date h x e = by (isDate (x .year) (x .d)) e
-  where
-    by : (b : Bool) → cond b (afterLast h x) false ≡ true → b ≡ true
-    by true f = refl
-    by false f = f
 
 module _ {s : List ℕ} {i : ℕ} {x : Station} {y : Day} {earlier : Earlier} {good : Bool} {place : ℕ} (d : DayAt s i x y earlier good place) where
   verdict-is : verdictOf (d .block .station) (d .block .days) y ≡ verdictAt x y earlier good
@@ -55,18 +48,22 @@ module _ {s : List ℕ} {i : ℕ} {x : Station} {y : Day} {earlier : Earlier} {g
     abbrev crops : List ℕ
     crops = bytesOf (cropAnswers (d .block .crop) y (verdictAt x y earlier good))
 
+    abbrev atEnd : List ℕ
+    atEnd = bytesOf (answersAtEnd (pastAll unopened (d .before ++ (day (d .block) y ∷ d .later))))
+
     abbrev back : List ℕ
-    back = bytesOf (answersOf (d .later)) ++ drop n buffer
+    back = bytesOf (answersOf (d .later)) ++ (atEnd ++ drop n buffer)
 
     whole : bufferAfter s buffer ≡ front ++ (own ++ (crops ++ back))
     unfolding bufferAfter
     whole =
         ap (λ (o : Outcome). leaves o (bytesOf (answersTo s)) buffer) e
-        ∙ ap (λ (r : Reading). bytesOf (answersOf (entriesOf r)) ++ drop n buffer) (d .stands)
-        ∙ ap (λ (l : List ℕ). l ++ drop n buffer) (answers-append answersFor (d .before) (day (d .block) y ∷ d .later))
-        ∙ append-assoc front (bytesOf (answersOf (day (d .block) y ∷ d .later))) (drop n buffer)
-        ∙ ap (λ (l : List ℕ). front ++ (l ++ drop n buffer)) (bytes-append (answersFor (day (d .block) y)) (answersOf (d .later)))
-        ∙ ap (λ (v : Verdict). front ++ (((answerBytes (dayAnswer y v) ++ bytesOf (cropAnswers (d .block .crop) y v)) ++ bytesOf (answersOf (d .later))) ++ drop n buffer)) verdict-is
+        ∙ ap (λ (r : Reading). bytesOf (answersIn r) ++ drop n buffer) (d .stands)
+        ∙ ap (λ (l : List ℕ). l ++ drop n buffer) (all-bytes answersFor (d .before ++ (day (d .block) y ∷ d .later)))
+        ∙ ap (λ (l : List ℕ). (l ++ atEnd) ++ drop n buffer)
+        (answers-append answersFor (d .before) (day (d .block) y ∷ d .later)
+        ∙ ap (λ (l : List ℕ). front ++ l) (bytes-append (answersFor (day (d .block) y)) (answersOf (d .later)))
+        ∙ ap (λ (v : Verdict). front ++ ((answerBytes (dayAnswer y v) ++ bytesOf (cropAnswers (d .block .crop) y v)) ++ bytesOf (answersOf (d .later)))) verdict-is)
         ∙ simp append-assoc
 
     -- in the buffer that an accepted log leaves, the day's own answer stands at its place

@@ -17,7 +17,8 @@ use Rattle.answers.specs.Answers.{kindOf, valueOf, dated, dayAnswer, answerByte
 use Rattle.log.specs.Demand.{AnsweredLog, AnsweredDay, FigureAt, FiguresOwed, EveryFigureWithinBound}
 use Rattle.log.specs.Log.{bufferAfter}
 use Rattle.log.proofs.Days.{answer-at, good-in-calendar}
-use Rattle.log.proofs.Stations.{station-sound, station-constants}
+use Rattle.log.proofs.Kept.{station-constants}
+use Rattle.log.proofs.Stations.{station-sound}
 
 -- the mark changes an answer's kind and not its figure
 pub marked-bytes : (x : Day) (n : ℕ) → answerBytes (dayAnswer x (withMark x n)) ≡ dated (kindOf (withMark x n)) (x .year) (x .d) n

@@ -8,18 +8,18 @@ use native.Mathlib.Omega.{arith}
 use lib.ListN.{length, length-append, List·getD-append}
 use Rattle.day.specs.Rules.{badStation}
 use Rattle.day.specs.declared.Station.{Station}
-use Rattle.records.specs.Record.{recordAt}
+use Rattle.records.specs.Record.{recordAt, foundIn}
 use Rattle.records.specs.declared.Record.{Record}
 use Rattle.records.specs.declared.Record.the-variants as Record
 use Rattle.records.proofs.Alike.{Alike}
 use Rattle.records.proofs.Part.{Part, rest-part}
-use Rattle.log.specs.Log.{Past, block, opened, station, faulty, holds, stepOf, Reading, refused, prepend, onward, readFrom}
+use Rattle.log.specs.Log.{Past, block, opened, station, fault, enters, goesTo, stepOf, Reading, refused, prepend, onward, readFrom}
 use Rattle.log.proofs.Steps.{steps-enough}
 use Rattle.log.proofs.TwoParts.{moved, read-last}
 
 -- the reading of a log that begins with a station's record of n bytes
-unfoldable pub openedBy : ℕ → Station → List ℕ → Reading
-openedBy n x rest = cond (badStation x) (refused 3 0) (prepend (station x) (moved n (readFrom (length rest + 1) rest 0 (block (opened x)))))
+unfoldable pub openedBy : ℕ → Past → Station → List ℕ → Reading
+openedBy n q x rest = cond (badStation x) (refused 3 0) (prepend (station q x) (moved n (readFrom (length rest + 1) rest 0 (block (opened x)))))
 
 -- a kind byte, the fields, and what else the record has
 module _ (kind : ℕ) (fields more rest : List ℕ) where
@@ -54,15 +54,15 @@ module _ (kind : ℕ) (fields more rest : List ℕ) where
         ∙ read-last rest-there whole-length (length log) 0 p
         ∙ (λ i. moved (sized i) (steps-enough rest (length log) (length rest + 1) 0 p (omega arith) (omega (arith, whole-length)) (omega arith) i))
 
-    pub first-read : {x : Station} → recordAt log 0 ≡ Record.Station n x → (q : Past) → readFrom (length log + 1) log 0 q ≡ openedBy n x rest
+    pub first-read : {x : Station} → recordAt log 0 ≡ Record.Station n x → (q : Past) → readFrom (length log + 1) log 0 q ≡ openedBy n q x rest
     unfolding readFrom openedBy
     first-read {x} is q =
         let steps : length log + 1 ≡ suc (length log) = omega arith in
         ap (λ (m : ℕ). readFrom m log 0 q) steps
-        ∙ ap (λ (r : Record). onward (stepOf log r q) 0 (readFrom (length log) log)) is
+        ∙ ap (λ (r : Record). onward (stepOf (foundIn log r) q) 0 (readFrom (length log) log)) is
         ∙ by (badStation x)
       where
-        by : (b : Bool) → onward (cond b (faulty 3) (holds n (station x))) 0 (readFrom (length log) log)
-            ≡ cond b (refused 3 0) (prepend (station x) (moved n (readFrom (length rest + 1) rest 0 (block (opened x)))))
+        by : (b : Bool) → onward (goesTo n (cond b (fault 3) (enters (station q x)))) 0 (readFrom (length log) log)
+            ≡ cond b (refused 3 0) (prepend (station q x) (moved n (readFrom (length rest + 1) rest 0 (block (opened x)))))
         by true = refl
-        by false = ap (prepend (station x)) (rest-read (block (opened x)))
+        by false = ap (prepend (station q x)) (rest-read (block (opened x)))

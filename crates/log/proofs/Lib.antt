@@ -1,8 +1,10 @@
 -- The lemmas that belong to no one function.
 pub mod Calendar
 pub mod Carried
+pub mod Kept
+pub mod Laws
+pub mod Stands
 pub mod Turns
-pub mod Placed
 pub mod Readings
 pub mod Walked
 pub mod Along
@@ -24,9 +26,7 @@ pub mod Counted
 pub mod Longest
 pub mod DateOrder
 pub mod WithoutKind
-pub mod WithoutCrops
 pub mod FirstStation
 pub mod LimitedStations
 pub mod AnswersSince
 pub mod WithoutSubstitute
-pub mod WithEleven

@@ -16,11 +16,11 @@ use Rattle.records.specs.Record.{stationWith, stationAt, limitedStationAt, reco
 use Rattle.records.specs.declared.Record.the-variants as Record
 use Rattle.records.proofs.Alike.{station-alike}
 use Rattle.log.specs.LimitedStations.{limitBytes, withKindOne, withKindEight, StationThere, twoFurther, SameAnswers}
-use Rattle.log.specs.Log.{Past, unopened, block, opened, Entry, station, answersOf}
-use Rattle.log.specs.Log.{Reading, refused, accepted, prepend, readFrom, readingOf, entriesOf, settled, longest, outcomeOf, leaves, bufferAfter}
+use Rattle.log.specs.Log.{Past, unopened, block, opened, Entry, station, pastAll, answersIn}
+use Rattle.log.specs.Log.{Reading, refused, accepted, prepend, readFrom, readingOf, settled, longest, outcomeOf, leaves, bufferAfter}
 use Rattle.log.specs.declared.Outcome.the-variants.{Refused}
 use Rattle.log.proofs.FirstStation.{openedBy, log, fields-there, first-read}
-use Rattle.log.proofs.TwoParts.{pastAll, moved, two-parts}
+use Rattle.log.proofs.TwoParts.{moved, two-parts}
 use Rattle.log.proofs.Walked.{behind, behind-refused, behind-accepted}
 
 module _ (front fields rest : List ℕ) (there : StationThere front fields) where
@@ -81,13 +81,13 @@ module _ (front fields rest : List ℕ) (there : StationThere front fields) wher
   abbrev start : Past
   start = pastAll unopened (there .before)
 
-  read-one : readingOf s ≡ behind (there .before) (moved place (openedBy 19 x rest))
+  read-one : readingOf s ≡ behind (there .before) (moved place (openedBy 19 start x rest))
   read-one =
       two-parts front logOne (there .before) (there .whole)
       ∙ ap (λ (r : Reading). behind (there .before) (moved place r))
       (first-read 1 fields [] rest 19 (omega (arith, there .eighteen, length-append fields [])) one start)
 
-  read-eight : readingOf t ≡ behind (there .before) (moved place (openedBy 21 x rest))
+  read-eight : readingOf t ≡ behind (there .before) (moved place (openedBy 21 start x rest))
   read-eight =
       two-parts front logEight (there .before) (there .whole)
       ∙ ap (λ (r : Reading). behind (there .before) (moved place r))
@@ -102,14 +102,14 @@ module _ (front fields rest : List ℕ) (there : StationThere front fields) wher
   unfolding openedBy
   same-reading = read-eight ∙ by (badStation x) (readFrom (length rest + 1) rest 0 (block (opened x))) ∙ ap (twoFurther place) (sym read-one)
     where
-      by : (b : Bool) (r : Reading) → behind (there .before) (moved place (cond b (refused 3 0) (prepend (station x) (moved 21 r))))
-          ≡ twoFurther place (behind (there .before) (moved place (cond b (refused 3 0) (prepend (station x) (moved 19 r)))))
+      by : (b : Bool) (r : Reading) → behind (there .before) (moved place (cond b (refused 3 0) (prepend (station start x) (moved 21 r))))
+          ≡ twoFurther place (behind (there .before) (moved place (cond b (refused 3 0) (prepend (station start x) (moved 19 r)))))
       by true r = refused-further 3 (place + 0) (place + 0) (ap (λ (b : Bool). cond b (place + 0) (place + 0 + 2)) (le-leb (place + 0) place (omega arith)))
       by false (refused k at) =
           refused-further k (place + (19 + at)) (place + (21 + at))
           (ap (λ (b : Bool). cond b (place + (19 + at)) (place + (19 + at) + 2)) (lt-leb (place + (19 + at)) place (omega arith)) ∙ omega arith)
       by false (accepted es) =
-          behind-accepted (there .before) (station x ∷ es) ∙ ap (twoFurther place) (sym (behind-accepted (there .before) (station x ∷ es)))
+          behind-accepted (there .before) (station start x ∷ es) ∙ ap (twoFurther place) (sym (behind-accepted (there .before) (station start x ∷ es)))
 
   -- ---- the outcome and the buffer
 
@@ -139,12 +139,12 @@ module _ (front fields rest : List ℕ) (there : StationThere front fields) wher
   same-buffer : length t ≤ longest → (lent : List ℕ) → bufferAfter t lent ≡ bufferAfter s lent
   unfolding bufferAfter
   same-buffer short lent =
-      (λ i. leaves (same-outcome short (length lent) i) (bytesOf (answersOf (entriesOf (same-reading i)))) lent)
+      (λ i. leaves (same-outcome short (length lent) i) (bytesOf (answersIn (same-reading i))) lent)
       ∙ by (readingOf s)
-      ∙ sym (λ i. leaves (outcome-of s (shorter short) (length lent) i) (bytesOf (answersOf (entriesOf (readingOf s)))) lent)
+      ∙ sym (λ i. leaves (outcome-of s (shorter short) (length lent) i) (bytesOf (answersIn (readingOf s))) lent)
     where
-      by : (r : Reading) → leaves (settled (twoFurther place r) (length lent)) (bytesOf (answersOf (entriesOf (twoFurther place r)))) lent
-          ≡ leaves (settled r (length lent)) (bytesOf (answersOf (entriesOf r))) lent
+      by : (r : Reading) → leaves (settled (twoFurther place r) (length lent)) (bytesOf (answersIn (twoFurther place r))) lent
+          ≡ leaves (settled r (length lent)) (bytesOf (answersIn r)) lent
       by (refused k at) = refl
       by (accepted es) = refl
 

@@ -29,7 +29,7 @@ use Rattle.log.specs.Demand.{AnsweredLog}
 use Rattle.log.specs.History.{daysBefore, goodDate, counted, earlierMeans, verdictOf}
 use Rattle.log.specs.Log.{planted, cropAnswers, answersTo, readFrom, readingOf, outcomeOf, leaves, bufferAfter}
 use Rattle.log.specs.declared.Outcome.the-variants as outcome
-use Rattle.log.specs.WithoutKind.{recordWithout, readWithout, readingWithout, Without}
+use Rattle.log.specs.WithoutKind.{foundWithout, readWithout, readingWithout, Without}
 use Rattle.log.proofs.CropFigures.{crop-figures-met}
 use Rattle.log.proofs.Sample.{sample, station, day-there, windless, beans, lidw, missing, noMean, oneMean, twoMeans}
 
@@ -91,12 +91,12 @@ pub worked : answersTo cropLog ≡
 unfolding readingOf readFrom recordAt stationAt dayAt cropAt wordAt signedOf signedAt isDate yearLength daysBefore goodDate counted earlierMeans verdictOf badCrop inSeason above cropFigure
 worked =
     λ i.
-    answer.Station (stationAt cropLog 1 .code)
+    (answer.Station (stationAt cropLog 1 .code)
     ∷ (sown 42 (lacking .0 i) ++ (sown 59 (lacking .1 i) ++ (sown 76 (days .1 .told i)
     ++ (answer.Station (stationAt cropLog 93 .code)
     ∷ dayAnswer (dayAt cropLog 112) (lacking .2 i) ∷ dayAnswer (dayAt cropLog 129) (lacking .3 i) ∷ dayAnswer (dayAt cropLog 146) (lacking .4 i)
     ∷ dayAnswer (dayAt cropLog 163) (days .2 .told i)
-    ∷ []))))
+    ∷ []))))) ++ []
 
 -- ---- a buffer of 84 bytes
 
@@ -127,5 +127,5 @@ bytes = λ i. leaves (outcome-is i) (bytesOf (worked i)) lent
 -- ---- a log without a crop
 
 pub without : Without 6 sample
-unfolding readingWithout readWithout recordWithout recordAt stationAt dayAt wordAt signedOf signedAt
+unfolding readingWithout readWithout foundWithout recordAt stationAt dayAt wordAt signedOf signedAt
 without at e = let z : _≡_ {A = ℕ} 0 1 = cc in absurd (omega arith)

@@ -31,7 +31,7 @@ use Rattle.log.specs.CropFigures.{CropDay, CropFigureAt, CropFiguresOwed
 use Rattle.log.specs.Days.{DayAt}
 use Rattle.log.specs.Demand.{AnsweredLog, FigureAt, FiguresOwed}
 use Rattle.log.specs.History.{daysBefore, goodDate, counted, earlierMeans, verdictOf}
-use Rattle.log.specs.Log.{planted, cropAnswers, answersBy, answersTo, readFrom, readingOf, entriesOf, outcomeOf, leaves, bufferAfter}
+use Rattle.log.specs.Log.{planted, cropAnswers, answersInBy, answersTo, readFrom, readingOf, outcomeOf, leaves, bufferAfter}
 use Rattle.log.specs.WithoutSubstitute.{verdictStrictly, answersStrictly, outcomeStrictly, bufferStrictly}
 use Rattle.log.specs.declared.Outcome.the-variants as outcome
 use Rattle.log.proofs.CropFigures.{crop-figures-met}
@@ -98,7 +98,7 @@ pub worked : answersTo estimateLog ≡
     ∷ answer.Day 2008 10 (Refused Missing) ∷ answer.Day 2008 11 (Refused Missing) ∷ answer.Day 2008 12 (Figure 0)
     ∷ []
 unfolding readingOf readFrom recordAt stationAt dayAt cropAt wordAt signedOf signedAt isDate yearLength daysBefore goodDate counted earlierMeans verdictOf badCrop inSeason above cropFigure
-worked = λ i. all (lacking .0 i) (lacking .1 i) (estimates .told i) (lacking .2 i) (lacking .3 i) (lacking .4 i) (days .0 .told i)
+worked = λ i. all (lacking .0 i) (lacking .1 i) (estimates .told i) (lacking .2 i) (lacking .3 i) (lacking .4 i) (days .0 .told i) ++ []
 
 -- record 4 is an answered day of the beans' season
 pub crop-day : CropDay estimateLog 4 (stationAt estimateLog 1) (dayAt estimateLog 76) twoMeans 23 (cropAt estimateLog 20)
@@ -163,12 +163,12 @@ bytes = λ i. leaves (outcome-is 84 i) (bytesOf (worked i)) lent
 
 -- ---- 73 bytes were needed before
 
-then-worked : answersBy answersStrictly (entriesOf (readingOf estimateLog)) ≡
+then-worked : answersInBy answersStrictly (readingOf estimateLog) ≡
     all (Refused Missing) (Refused Missing) (Refused Missing) (Refused Missing) (Refused Missing) (Refused Missing) (Figure 0)
 unfolding readingOf readFrom recordAt stationAt dayAt cropAt wordAt signedOf signedAt isDate yearLength daysBefore goodDate counted earlierMeans verdictStrictly badCrop inSeason above cropFigure
 then-worked =
     λ i.
-    all (lacking-then .0 i) (lacking-then .1 i) (lacking-then .2 i) (lacking-then .3 i) (lacking-then .4 i) (lacking-then .5 i) (answered-then i)
+    all (lacking-then .0 i) (lacking-then .1 i) (lacking-then .2 i) (lacking-then .3 i) (lacking-then .4 i) (lacking-then .5 i) (answered-then i) ++ []
 
 outcome-was : (size : ℕ) → outcomeStrictly estimateLog size ≡ cond (ltb size 73) (outcome.Refused 12 73) (outcome.Written 73)
 unfolding outcomeStrictly readingOf readFrom recordAt stationAt dayAt cropAt wordAt signedOf signedAt badCrop

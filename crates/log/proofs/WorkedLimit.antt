@@ -24,7 +24,7 @@ use Rattle.log.specs.Demand.{AnsweredLog, AnsweredDay, FigureAt, Figures
 use Rattle.log.specs.History.{daysBefore, goodDate, counted, earlierMeans, verdictOf}
 use Rattle.log.specs.LimitedStations.{StationThere}
 use Rattle.log.specs.Log.{bare, answersTo, readFrom, readingOf, entriesOf, outcomeOf, leaves, bufferAfter}
-use Rattle.log.specs.WithoutKind.{recordWithout, readWithout, readingWithout, Without}
+use Rattle.log.specs.WithoutKind.{foundWithout, readWithout, readingWithout, Without}
 use Rattle.log.specs.declared.Outcome.the-variants as outcome
 use Rattle.log.proofs.Demand.{log-within-bound}
 use Rattle.log.proofs.Sample.{sample, fields, station, day-there, windless, lidw, missing, noMean, oneMean, twoMeans}
@@ -117,5 +117,5 @@ unfolding readingOf readFrom recordAt stationAt dayAt wordAt signedOf signedAt
 there = record { before = entriesOf (readingOf sample); whole = refl; eighteen = refl }
 
 pub without : Without 8 sample
-unfolding readingWithout readWithout recordWithout recordAt stationAt dayAt wordAt signedOf signedAt
+unfolding readingWithout readWithout foundWithout recordAt stationAt dayAt wordAt signedOf signedAt
 without at e = let z : _≡_ {A = ℕ} 0 1 = cc in absurd (omega arith)

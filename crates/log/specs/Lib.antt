@@ -6,7 +6,6 @@ pub mod DateOrder
 pub mod Demand
 pub mod CropFigures
 pub mod WithoutKind
-pub mod WithoutCrops
 pub mod LimitedStations
 pub mod WithoutSubstitute
 pub mod Carried

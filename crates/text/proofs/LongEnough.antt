@@ -13,12 +13,11 @@ use Rattle.answers.specs.declared.Answer.the-variants as answer
 use Rattle.day.specs.declared.Code.{Code}
 use Rattle.records.proofs.Choice.{by-cond}
 use Rattle.answers.specs.Answers.{bytesOf}
-use Rattle.log.specs.Log.{longest, longestAnswers, answersTo, readingOf, entriesOf, outcomeOf, settled}
+use Rattle.log.specs.Log.{longest, longestAnswers, answersTo, readingOf, outcomeOf, settled}
 use Rattle.log.specs.declared.Outcome.{Outcome}
 use Rattle.log.specs.declared.Outcome.the-variants as outcome
 use Rattle.log.proofs.Longest.{answers-most, lines-room}
 use Rattle.log.proofs.OutcomeSize.{Small, outcome-small, outcome-alike}
-use Rattle.log.proofs.Stations.{sound-reading}
 use Rattle.totals.specs.Totals.{totalOf}
 use Rattle.text.specs.Totals.{BlockOf}
 use Rattle.text.specs.Report.{own, linesOf, textOf, reportOf, wholeReport, AreBytes, LongEnough}
@@ -35,13 +34,12 @@ module _ (s : List ℕ) (bytes : AreBytes s) where
 
   pub text-most : length s ≤ longest → length (header ++ linesOf (answersTo s)) ≤ longestReport
   text-most short =
-      let es = entriesOf (readingOf s) in
       let room = lines-room s short in
       omega (
         arith,
         length-append header (linesOf (answersTo s)),
-        lines-most (answersTo s) (all-small s bytes es (sound-reading s)) (answers-ordered s) (omega (arith, all-counts es .0, room .1)),
-        all-counts es .1,
+        lines-most (answersTo s) (all-small s bytes) (answers-ordered s) (omega (arith, all-counts s .0, room .1)),
+        all-counts s .1,
         room .0,
       )
 
@@ -49,8 +47,7 @@ module _ (s : List ℕ) (bytes : AreBytes s) where
   pub totals-most : length s ≤ longest → (chosen : ℕ → ℕ → Bool) {code : Code} {answers : List Answer} → BlockOf s code answers
       → let t = totalOf chosen answers in (t .days ≤ 3_853) × (t .sum ≤ 308_240_000)
   totals-most short chosen {code} b =
-      let es = entriesOf (readingOf s) in
-      let small = rest-small (b .before) (answer.Station code ∷ b .rest) (subst AllSmall (b .stands) (all-small s bytes es (sound-reading s))) in
+      let small = rest-small (b .before) (answer.Station code ∷ b .rest) (subst AllSmall (b .stands) (all-small s bytes)) in
       let t = subst (λ (l : List Answer). Bounded (daysIn l) (totalOf chosen l)) (sym (b .its)) (total-most chosen (own (b .rest)) (own-small (b .rest) (small .1))) in
       let few : daysIn (own (b .rest)) ≤ 3_853 =
       omega (
@@ -58,7 +55,7 @@ module _ (s : List ℕ) (bytes : AreBytes s) where
         own-fewer (b .rest),
         rest-fewer (b .before) (answer.Station code ∷ b .rest),
         ap daysIn (b .stands),
-        all-counts es .0,
+        all-counts s .0,
         lines-room s short .1,
       ) in
       let own-days = ap daysIn (b .its) in

@@ -2,7 +2,7 @@
 -- (`all-small`); and how many there are, by the log's records (`all-counts`). Assumes nothing.
 use mathlib.Core.Path.{_≡_, refl, ap}
 use mathlib.Core.Bool.{true, false, not}
-use mathlib.Core.List.{List, [], _∷_, _++_}
+use mathlib.Core.List.{List, [], _∷_, _++_, append-assoc}
 use Prim.Native.Nat.{ℕ, _+_, _*_, _≤_, _<_}
 use native.Mathlib.Omega.{arith}
 use lib.ListN.{length}
@@ -26,12 +26,14 @@ use Rattle.records.specs.Bytes.{wordAt}
 use Rattle.records.specs.Record.{dayAt}
 use Rattle.records.proofs.Choice.{by-cond}
 use Rattle.log.specs.History.{goodDate, earlierMeans, verdictOf}
-use Rattle.log.specs.Log.{Planted, bare, planted, Entry, station, day, crop, cropAnswer, cropAnswers, answersOf}
+use Rattle.log.specs.Log.{Planted, bare, planted, Past, unopened, Entry, station, day, crop, pastAll, cropAnswer, cropAnswers, answersFor, answersOf, answersAtEnd, answersIn, answersTo}
+use Rattle.log.specs.Log.{Reading, refused, accepted, readingOf, entriesOf}
 use Rattle.day.proofs.Dates.{date-tells}
-use Rattle.log.proofs.Carried.{PlantedSound}
-use Rattle.log.proofs.Days.{good-date}
+use Rattle.log.proofs.Carried.{PlantedSound, good-date}
 use Rattle.log.proofs.Counted.{stationsOf, daysOf, figuresOf}
-use Rattle.log.proofs.Stations.{Sound, SoundEntries, station-constants}
+use Rattle.log.proofs.Kept.{Sound, Kept, station-constants}
+use Rattle.log.proofs.Laws.{tally}
+use Rattle.log.proofs.Stations.{SoundEntry, SoundEntries, sound-reading}
 use Rattle.text.specs.Report.{AreBytes}
 use Rattle.text.proofs.Sizes.{daysIn, weight, AllSmall}
 use Rattle.lines.specs.Text.{verdictText, dayLine, cropLine}
@@ -113,16 +115,32 @@ module _ (s : List ℕ) (bytes : AreBytes s) where
 
   -- ---- the answers
 
-  pub all-small : (es : List Entry) → SoundEntries s es → AllSmall (answersOf es)
-  all-small [] f = tt
-  all-small (station x ∷ es) f = (tt, all-small es (f .1))
-  all-small (crop b c ∷ es) f = all-small es (f .1)
-  all-small (day b y ∷ es) f =
+  entry-small : (e : Entry) → SoundEntry s e → AllSmall (answersFor e)
+  unfolding Kept
+  entry-small (station p x) f = (tt, tt)
+  entry-small (crop b c) f = tt
+  entry-small (day b y) f =
       let v = verdictOf (b .station) (b .days) y in
-      let small = figure-small (b .station) (b .days) y (f .0 .0 .0) in (
-        (λ code. line-most code (b .station) (b .days) y (f .0 .0 .0) (f .0 .1), small),
-        both-small (cropAnswers (b .crop) y v) (answersOf es) (crops-small (b .crop) y v (f .0 .0 .1) small) (all-small es (f .1)),
+      let sound = f .kept .sound in
+      let small = figure-small (b .station) (b .days) y sound in (
+        (λ code. line-most code (b .station) (b .days) y sound (f .offset + 1, f .read), small),
+        crops-small (b .crop) y v (f .kept .faultless) small,
       )
+
+  entries-small : (es : List Entry) → SoundEntries s es → AllSmall (answersOf es)
+  entries-small [] f = tt
+  entries-small (e ∷ es) f = both-small (answersFor e) (answersOf es) (entry-small e (f .0)) (entries-small es (f .1))
+
+  end-small : (p : Past) → AllSmall (answersAtEnd p)
+  end-small p = tt
+
+  pub all-small : AllSmall (answersTo s)
+  all-small = by (readingOf s) (sound-reading s)
+    where
+      by : (r : Reading) → SoundEntries s (entriesOf r) → AllSmall (answersIn r)
+      by (refused k at) f = tt
+      by (accepted es) f =
+          both-small (answersOf es) (answersAtEnd (pastAll unopened es)) (entries-small es f) (end-small (pastAll unopened es))
 
 -- ---- how many there are
 
@@ -139,10 +157,29 @@ module _ (rest : List Answer) where
   crops-count (planted c) y (Figure n) = crop-counts c y n
   crops-count (planted c) y (Estimated n) = crop-counts c y n
 
-pub all-counts : (es : List Entry) → (daysIn (answersOf es) ≡ daysOf es) × (weight (answersOf es) ≡ 45 * daysOf es + 13 * figuresOf es + 25 * stationsOf es)
-all-counts [] = (refl, refl)
-all-counts (station x ∷ es) = (all-counts es .0, omega (arith, all-counts es .1))
-all-counts (crop b c ∷ es) = all-counts es
-all-counts (day b y ∷ es) =
-    let crops = crops-count (answersOf es) (b .crop) y (verdictOf (b .station) (b .days) y) in
-    (omega (arith, all-counts es .0, crops .0), omega (arith, all-counts es .1, crops .1))
+  -- of one record, before the rest
+  entry-counts : (e : Entry) → (daysIn (answersFor e ++ rest) ≡ tally e .days + daysIn rest)
+      × (weight (answersFor e ++ rest) ≡ 45 * tally e .days + 13 * tally e .figures + 25 * tally e .stations + weight rest)
+  entry-counts (station p x) = (omega arith, omega arith)
+  entry-counts (crop b c) = (omega arith, omega arith)
+  entry-counts (day b y) =
+      let crops = crops-count (b .crop) y (verdictOf (b .station) (b .days) y) in
+      (omega (arith, crops .0), omega (arith, crops .1))
+
+-- of all records, before those at the end
+entries-count : (es : List Entry) (p : Past) → let l = answersOf es ++ answersAtEnd p in
+    (daysIn l ≡ daysOf es) × (weight l ≡ 45 * daysOf es + 13 * figuresOf es + 25 * stationsOf es)
+entries-count [] p = (refl, refl)
+entries-count (e ∷ es) p =
+    let one = entry-counts (answersOf es ++ answersAtEnd p) e in
+    let more = entries-count es p in
+    rw append-assoc (omega (arith, one .0, more .0), omega (arith, one .1, more .1))
+
+pub all-counts : (s : List ℕ) → let es = entriesOf (readingOf s) in
+    (daysIn (answersTo s) ≡ daysOf es) × (weight (answersTo s) ≡ 45 * daysOf es + 13 * figuresOf es + 25 * stationsOf es)
+all-counts s = by (readingOf s)
+  where
+    by : (r : Reading) → (daysIn (answersIn r) ≡ daysOf (entriesOf r))
+        × (weight (answersIn r) ≡ 45 * daysOf (entriesOf r) + 13 * figuresOf (entriesOf r) + 25 * stationsOf (entriesOf r))
+    by (refused k at) = (refl, refl)
+    by (accepted es) = entries-count es (pastAll unopened es)
