@@ -3,8 +3,8 @@
 ghost use mathlib.Core.Path.{_≡_};
 ghost use lib.ListN.{length};
 ghost use Rattle.day.specs.Judgement.{judged};
-ghost use Rattle.log.specs.CropFigures.{CropFiguresOwed};
-ghost use Rattle.log.specs.Demand.{FiguresOwed};
+ghost use Rattle.promises.specs.CropFigures.{CropFiguresOwed};
+ghost use Rattle.promises.specs.Demand.{FiguresOwed};
 ghost use Rattle.log.specs.Log.{outcomeOf, bufferAfter};
 ghost use Rattle.text.specs.Report.{reportOf, printedIn, textOver};
 ghost use Rattle.exports.specs.HandedIn.{stationOf, dayOf, meanOf, threeBefore};
@@ -120,7 +120,7 @@ pub extern "C" fn fuortwem_read_log(log: &[u8], answers: &mut [u8]) -> u64
     ensures { λ _. ⌜ FiguresOwed (now (log .entry)) (now (answers .entry)) (now (answers .exit)) ⌝ }
     ensures { λ _. ⌜ CropFiguresOwed (now (log .entry)) (now (answers .entry)) (now (answers .exit)) ⌝ }
 {
-    match log::read_log(log, answers) {
+    match promises::read_log(log, answers) {
         Outcome::Written(n) => packed(0, n as u32),
         Outcome::Refused(k, place) => packed(k as u32, place as u32),
     }

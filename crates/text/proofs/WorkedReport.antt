@@ -16,13 +16,13 @@ use Rattle.day.specs.Calendar.{yearLength}
 use Rattle.tables.specs.Values.{first}
 use Rattle.totals.specs.Months.{daysBy, monthOf}
 use Rattle.log.specs.Log.{answersTo, readFrom, readingOf, outcomeOf}
-use Rattle.log.proofs.Sample.{sample}
+use Rattle.promises.proofs.Sample.{sample}
 use Rattle.log.specs.declared.Outcome.the-variants as outcome
-use Rattle.log.proofs.WorkedLog.{worked}
-use Rattle.log.proofs.WorkedCrop.{cropLog}
-use Rattle.log.proofs.WorkedCrop.{worked as crop-worked}
-use Rattle.log.proofs.WorkedEstimate.{estimateLog}
-use Rattle.log.proofs.WorkedEstimate.{worked as estimate-worked}
+use Rattle.promises.proofs.WorkedLog.{worked}
+use Rattle.promises.proofs.WorkedCrop.{cropLog}
+use Rattle.promises.proofs.WorkedCrop.{worked as crop-worked}
+use Rattle.promises.proofs.WorkedEstimate.{estimateLog}
+use Rattle.promises.proofs.WorkedEstimate.{worked as estimate-worked}
 use Rattle.text.specs.Report.{linesOf, textOf, reportOf, wholeReport}
 use Rattle.text.specs.Walk.{Ordered}
 use Rattle.text.proofs.DateOrder.{answers-ordered}

@@ -14,11 +14,11 @@ use Rattle.day.specs.declared.Verdict.{Verdict}
 use Rattle.day.proofs.DayBound.{judged-within-bound}
 use Rattle.day.proofs.Marks.{either-way}
 use Rattle.answers.specs.Answers.{kindOf, valueOf, dated, dayAnswer, answerBytes}
-use Rattle.log.specs.Demand.{AnsweredLog, AnsweredDay, FigureAt, FiguresOwed, EveryFigureWithinBound}
+use Rattle.promises.specs.Demand.{AnsweredLog, AnsweredDay, FigureAt, FiguresOwed, EveryFigureWithinBound}
 use Rattle.log.specs.Log.{bufferAfter}
-use Rattle.log.proofs.Days.{answer-at, good-in-calendar}
+use Rattle.promises.proofs.Days.{answer-at, good-in-calendar}
 use Rattle.log.proofs.Kept.{station-constants}
-use Rattle.log.proofs.Stations.{station-sound}
+use Rattle.promises.proofs.Stations.{station-sound}
 
 -- the mark changes an answer's kind and not its figure
 pub marked-bytes : (x : Day) (n : ℕ) → answerBytes (dayAnswer x (withMark x n)) ≡ dated (kindOf (withMark x n)) (x .year) (x .d) n

@@ -24,14 +24,14 @@ use Rattle.answers.specs.declared.Answer.{Answer}
 use Rattle.answers.specs.declared.Answer.the-variants as answer
 use Rattle.records.specs.Bytes.{wordAt, signedOf, signedAt}
 use Rattle.records.specs.Record.{stationAt, dayAt, cropAt, recordAt}
-use Rattle.log.specs.CropFigures.{CropDay, CropFigureAt, CropFiguresOwed, EveryCropFigure}
-use Rattle.log.specs.Demand.{AnsweredLog}
+use Rattle.promises.specs.CropFigures.{CropDay, CropFigureAt, CropFiguresOwed, EveryCropFigure}
+use Rattle.promises.specs.Demand.{AnsweredLog}
 use Rattle.log.specs.History.{daysBefore, goodDate, counted, earlierMeans, verdictOf}
 use Rattle.log.specs.Log.{planted, cropAnswers, answersTo, readFrom, readingOf, outcomeOf, leaves, bufferAfter}
 use Rattle.log.specs.declared.Outcome.the-variants as outcome
-use Rattle.log.specs.WithoutKind.{foundWithout, readWithout, readingWithout, Without}
-use Rattle.log.proofs.CropFigures.{crop-figures-met}
-use Rattle.log.proofs.Sample.{sample, station, day-there, windless, beans, lidw, missing, noMean, oneMean, twoMeans}
+use Rattle.promises.specs.WithoutKind.{foundWithout, readWithout, readingWithout, Without}
+use Rattle.promises.proofs.CropFigures.{crop-figures-met}
+use Rattle.promises.proofs.Sample.{sample, station, day-there, windless, beans, lidw, missing, noMean, oneMean, twoMeans}
 
 -- day 180 of 2008: 90, 55, 72 and 50 °F, 700 cal/cm²/d, 100 miles
 abbrev summer : List ℕ

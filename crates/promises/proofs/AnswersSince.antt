@@ -19,12 +19,12 @@ use Rattle.day.specs.declared.Station.{Station}
 use Rattle.day.specs.declared.Verdict.{Verdict}
 use Rattle.day.specs.declared.Verdict.the-variants as verdict
 use Rattle.day.proofs.WithoutSubstitute as day-since
 use Rattle.log.specs.History.{goodDate, earlierMeans, verdictOf}
 use Rattle.log.specs.Log.{BlockRead, Entry, day, byDay, cropAnswers, answersFor, answersBy, answersOf}
-use Rattle.log.specs.WithoutSubstitute.{verdictStrictly, dayStrictly, answersStrictly, Stays, AllStay, addedAt, addedTo}
+use Rattle.promises.specs.WithoutSubstitute.{verdictStrictly, dayStrictly, answersStrictly, Stays, AllStay, addedAt, addedTo}
 use Rattle.log.proofs.Carried.{none-refused}
 use Rattle.log.proofs.Counted.{answers-longer}
 use Rattle.log.proofs.Laws.{one-most, by-day}
 
 -- ---- a day
 

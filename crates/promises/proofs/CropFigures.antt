@@ -19,14 +19,14 @@ use Rattle.day.proofs.Marks.{either-way}
 use Rattle.answers.specs.Answers.{valueOf, dayAnswer, answerBytes}
 use Rattle.answers.specs.declared.Answer.{Answer}
 use Rattle.answers.specs.declared.Answer.the-variants as answer
-use Rattle.log.specs.CropFigures.{CropDay, CropFigureAt, CropFiguresOwed, EveryCropFigure}
-use Rattle.log.specs.Demand.{AnsweredLog, FiguresOwed}
+use Rattle.promises.specs.CropFigures.{CropDay, CropFigureAt, CropFiguresOwed, EveryCropFigure}
+use Rattle.promises.specs.Demand.{AnsweredLog, FiguresOwed}
 use Rattle.log.specs.Log.{Planted, planted, cropAnswer, cropAnswers, bufferAfter, Read}
 use Rattle.log.specs.declared.Outcome.{Outcome}
-use Rattle.log.proofs.Days.{answer-at, crop-answer-at}
-use Rattle.log.proofs.Demand.{marked-bytes, answered, log-within-bound}
+use Rattle.promises.proofs.Days.{answer-at, crop-answer-at}
+use Rattle.promises.proofs.Demand.{marked-bytes, answered, log-within-bound}
 use Rattle.log.proofs.Kept.{station-constants}
-use Rattle.log.proofs.Stations.{station-sound, crop-faultless}
+use Rattle.promises.proofs.Stations.{station-sound, crop-faultless}
 
 -- a mark hides no figure
 one-figure : (x : Day) {n m : ℕ} → withMark x n ≡ withMark x m → n ≡ m

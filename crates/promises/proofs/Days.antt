@@ -13,15 +13,15 @@ use Rattle.day.specs.declared.Earlier.{Earlier}
 use Rattle.day.specs.declared.Station.{Station}
 use Rattle.day.specs.declared.Verdict.{Verdict}
 use Rattle.answers.specs.Answers.{dayAnswer, answerBytes, bytesOf}
-use Rattle.log.specs.Days.{DayAt, verdictAt}
+use Rattle.promises.specs.Days.{DayAt, verdictAt}
 use Rattle.log.specs.History.{verdictOf}
 use Rattle.log.specs.Log.{unopened, day, pastAll, cropAnswers, answersFor, answersOf, answersAtEnd, answersIn, answersTo, Reading, outcomeOf, leaves, bufferAfter}
 use Rattle.log.specs.declared.Outcome.{Outcome}
 use Rattle.log.specs.declared.Outcome.the-variants.{Written}
 use Rattle.answers.specs.declared.Answer.{Answer}
 use Rattle.answers.proofs.Bytes.{bytes-append}
 use Rattle.log.proofs.Carried.{good-date}
 use Rattle.log.proofs.Walked.{answers-append, all-bytes}
 
 -- ---- the answer
 

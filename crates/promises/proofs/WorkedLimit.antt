@@ -20,14 +20,14 @@ use Rattle.answers.specs.declared.Answer.{Answer}
 use Rattle.answers.specs.declared.Answer.the-variants as answer
 use Rattle.records.specs.Bytes.{wordAt, signedOf, signedAt}
 use Rattle.records.specs.Record.{stationAt, limitedStationAt, dayAt, recordAt}
-use Rattle.log.specs.Demand.{AnsweredLog, AnsweredDay, FigureAt, FiguresOwed}
+use Rattle.promises.specs.Demand.{AnsweredLog, AnsweredDay, FigureAt, FiguresOwed}
 use Rattle.log.specs.History.{daysBefore, goodDate, counted, earlierMeans, verdictOf}
-use Rattle.log.specs.LimitedStations.{StationThere}
+use Rattle.promises.specs.LimitedStations.{StationThere}
 use Rattle.log.specs.Log.{bare, answersTo, readFrom, readingOf, entriesOf, outcomeOf, leaves, bufferAfter}
-use Rattle.log.specs.WithoutKind.{foundWithout, readWithout, readingWithout, Without}
+use Rattle.promises.specs.WithoutKind.{foundWithout, readWithout, readingWithout, Without}
 use Rattle.log.specs.declared.Outcome.the-variants as outcome
-use Rattle.log.proofs.Demand.{log-within-bound}
-use Rattle.log.proofs.Sample.{sample, fields, station, day-there, windless, lidw, missing, noMean, oneMean, twoMeans}
+use Rattle.promises.proofs.Demand.{log-within-bound}
+use Rattle.promises.proofs.Sample.{sample, fields, station, day-there, windless, lidw, missing, noMean, oneMean, twoMeans}
 
 -- LIDW as kind 8 with the limit 1,000
 abbrev limitedStation : List ℕ

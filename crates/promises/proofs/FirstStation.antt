@@ -13,9 +13,9 @@ use Rattle.records.specs.declared.Record.{Record}
 use Rattle.records.specs.declared.Record.the-variants as Record
 use Rattle.records.proofs.Alike.{Alike}
 use Rattle.records.proofs.Part.{Part, rest-part}
 use Rattle.log.specs.Log.{Past, block, opened, station, fault, enters, goesTo, stepOf, Reading, refused, prepend, onward, readFrom}
 use Rattle.log.proofs.Steps.{steps-enough}
-use Rattle.log.proofs.TwoParts.{moved, read-last}
+use Rattle.promises.proofs.TwoParts.{moved, read-last}
 
 -- the reading of a log that begins with a station's record of n bytes
 unfoldable pub openedBy : ℕ → Past → Station → List ℕ → Reading

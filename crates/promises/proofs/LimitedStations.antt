@@ -15,13 +15,13 @@ use Rattle.records.specs.Bytes.{wordAt}
 use Rattle.records.specs.Record.{stationWith, stationAt, limitedStationAt, recordAt}
 use Rattle.records.specs.declared.Record.the-variants as Record
 use Rattle.records.proofs.Alike.{station-alike}
-use Rattle.log.specs.LimitedStations.{limitBytes, withKindOne, withKindEight, StationThere, twoFurther, SameAnswers}
+use Rattle.promises.specs.LimitedStations.{limitBytes, withKindOne, withKindEight, StationThere, twoFurther, SameAnswers}
 use Rattle.log.specs.Log.{Past, unopened, block, opened, Entry, station, pastAll, answersIn}
 use Rattle.log.specs.Log.{Reading, refused, accepted, prepend, readFrom, readingOf, settled, longest, outcomeOf, leaves, bufferAfter}
 use Rattle.log.specs.declared.Outcome.the-variants.{Refused}
-use Rattle.log.proofs.FirstStation.{openedBy, log, fields-there, first-read}
-use Rattle.log.proofs.TwoParts.{moved, two-parts}
+use Rattle.promises.proofs.FirstStation.{openedBy, log, fields-there, first-read}
+use Rattle.promises.proofs.TwoParts.{moved, two-parts}
 use Rattle.log.proofs.Walked.{behind, behind-refused, behind-accepted}
 
 module _ (front fields rest : List ℕ) (there : StationThere front fields) where
   abbrev place : ℕ

@@ -27,16 +27,16 @@ use Rattle.answers.specs.declared.Answer.{Answer}
 use Rattle.answers.specs.declared.Answer.the-variants as answer
 use Rattle.records.specs.Bytes.{wordAt, signedOf, signedAt}
 use Rattle.records.specs.Record.{stationAt, dayAt, cropAt, recordAt}
-use Rattle.log.specs.CropFigures.{CropDay, CropFigureAt, CropFiguresOwed, EveryCropFigure}
-use Rattle.log.specs.Days.{DayAt}
-use Rattle.log.specs.Demand.{AnsweredLog, FigureAt, FiguresOwed}
+use Rattle.promises.specs.CropFigures.{CropDay, CropFigureAt, CropFiguresOwed, EveryCropFigure}
+use Rattle.promises.specs.Days.{DayAt}
+use Rattle.promises.specs.Demand.{AnsweredLog, FigureAt, FiguresOwed}
 use Rattle.log.specs.History.{daysBefore, goodDate, counted, earlierMeans, verdictOf}
 use Rattle.log.specs.Log.{planted, cropAnswers, answersInBy, answersTo, readFrom, readingOf, outcomeOf, leaves, bufferAfter}
-use Rattle.log.specs.WithoutSubstitute.{verdictStrictly, answersStrictly, outcomeStrictly, bufferStrictly}
+use Rattle.promises.specs.WithoutSubstitute.{verdictStrictly, answersStrictly, outcomeStrictly, bufferStrictly}
 use Rattle.log.specs.declared.Outcome.the-variants as outcome
-use Rattle.log.proofs.CropFigures.{crop-figures-met}
-use Rattle.log.proofs.Demand.{log-within-bound}
-use Rattle.log.proofs.Sample.{sample, station, day-there, windless, beans, lidw, missing, noMean, oneMean, twoMeans}
+use Rattle.promises.proofs.CropFigures.{crop-figures-met}
+use Rattle.promises.proofs.Demand.{log-within-bound}
+use Rattle.promises.proofs.Sample.{sample, station, day-there, windless, beans, lidw, missing, noMean, oneMean, twoMeans}
 
 -- day 179 of 2008, 71 °F, neither a dew point nor the wind; day 180: 90, 55 and 72 °F, no dew point, 700 cal/cm²/d, 100 miles
 abbrev twoMissing : List ℕ

@@ -15,13 +15,13 @@ use Rattle.day.specs.declared.Verdict.the-variants.{Figure, Refused}
 use Rattle.day.proofs.Examples.{days}
 use Rattle.answers.specs.Answers.{dayAnswer, answerBytes, bytesOf}
 use Rattle.records.specs.Bytes.{wordAt, signedOf, signedAt}
-use Rattle.log.specs.Days.{DayAt}
-use Rattle.log.specs.Demand.{AnsweredDay}
+use Rattle.promises.specs.Days.{DayAt}
+use Rattle.promises.specs.Demand.{AnsweredDay}
 use Rattle.log.specs.History.{daysBefore, goodDate, counted, earlierMeans, verdictOf}
 use Rattle.log.specs.Log.{bare, answersTo, readFrom, readingOf, outcomeOf, bufferAfter}
 use Rattle.answers.specs.declared.Answer.the-variants as answer
 use Rattle.records.specs.Record.{stationAt, dayAt, recordAt}
-use Rattle.log.proofs.Sample.{sample, fields, station, plainDay, day-there, third}
+use Rattle.promises.proofs.Sample.{sample, fields, station, plainDay, day-there, third}
 
 -- day 12, the third: two earlier means, of days that are refused
 abbrev means : Earlier

@@ -15,9 +15,9 @@ use Rattle.day.specs.declared.Refusal.{Refusal}
 use Rattle.day.specs.declared.Station.{Station}
 use Rattle.day.specs.declared.Verdict.{Verdict}
 use Rattle.answers.specs.Answers.{kindOf, dated}
-use Rattle.log.specs.Days.{DayAt}
+use Rattle.promises.specs.Days.{DayAt}
 use Rattle.log.specs.Log.{outcomeOf}
 use Rattle.log.specs.declared.Outcome.the-variants.{Written}
 
 -- "none of 1 to 5 and 12 and no log refusal that a request adds holds of the log and its answer buffer", by the rules and not by what a reader returns
 unfoldable pub AnsweredLog : List ℕ → List ℕ → Type 0
