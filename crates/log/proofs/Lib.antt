@@ -7,9 +7,6 @@ pub mod Stands
 pub mod Turns
 pub mod Readings
 pub mod Walked
-pub mod Along
-pub mod Passed
-pub mod HandedBack
 pub mod Stations
 pub mod Steps
 pub mod OutcomeSize

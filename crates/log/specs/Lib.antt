@@ -3,4 +3,3 @@ pub mod History
 pub mod Log
 pub mod DateOrder
 pub mod Carried
-pub mod Passes

@@ -10,5 +10,5 @@ pub fn read_log(log: &[u8], answers: &mut [u8]) -> Outcome
     ensures { λ _. ⌜ FiguresOwed (now (log .entry)) (now (answers .entry)) (now (answers .exit)) ⌝ }
     ensures { λ _. ⌜ CropFiguresOwed (now (log .entry)) (now (answers .entry)) (now (answers .exit)) ⌝ }
 {
-    log::read_log(log, answers)
+    walk::read_log(log, answers)
 }

@@ -1,0 +1,2 @@
+-- The definitions that the contracts of the walk cite.
+pub mod Passes
