@@ -1,4 +1,5 @@
 -- The lemmas that belong to no one function.
 pub mod Bytes
+pub mod Roles
 pub mod Overwriting
 pub mod ReadBack
