@@ -1,4 +1,5 @@
--- What has become of each day's verdict since the minimum stands for a missing dew point. The theorem is `since`. Assumes nothing.
+-- A day as it was judged before document 02, W4, that is, strictly: a missing dew point refused it with 7, as any other missing reading does. That stands
+-- here alone, to show what has become of each verdict since the minimum stands for a missing dew point (`Since`). The theorem is `since`. Assumes nothing.
 use mathlib.Core.Bool.{Bool, true, false, not, cond}
 use mathlib.Core.List.{[], _∷_}
 use mathlib.Core.Logic.{_≢_, _⊎_, inl, inr, ⊎-elim}
@@ -7,7 +8,6 @@ use lib.Dec.{T}
 use Rattle.day.specs.Calendar.{isDate}
 use Rattle.day.specs.Rules.{anyOf, badStation, isMissing, otherMarks}
 use Rattle.day.specs.Judgement.{figureOf, holds, firstOf, standingOf, lacksDewPoint, withDewPoint, asJudged, withMark, verdictWith, judged}
-use Rattle.day.specs.WithoutSubstitute.{judgedStrictly, withMinimum, estimated, Since}
 use Rattle.day.specs.declared.Station.{Station}
 use Rattle.day.specs.declared.Day.{Day}
 use Rattle.day.specs.declared.Earlier.{Earlier}
@@ -17,6 +17,31 @@ use Rattle.day.specs.declared.Standing.{Standing}
 use Rattle.day.specs.declared.Standing.the-variants as standing
 use Rattle.day.specs.declared.Verdict.{Verdict}
 use Rattle.day.specs.declared.Verdict.the-variants.{Figure, Refused, Estimated}
+
+-- ---- the rules before
+
+unfoldable pub judgedStrictly : Station → Day → Earlier → Verdict
+judgedStrictly st x earlier = verdictWith (standingOf st x earlier) (Figure (figureOf st x earlier))
+
+-- the same day with the minimum for its dew point
+abbrev pub withMinimum : Day → Day
+withMinimum x = withDewPoint x (x .minimum)
+
+-- a verdict with the mark on its figure
+abbrev pub estimated : Verdict → Verdict
+estimated (Figure n) = Estimated n
+estimated (Refused r) = Refused r
+estimated (Estimated n) = Estimated n
+
+-- ---- what has become of them
+
+pub record Since (st : Station) (x : Day) (earlier : Earlier) : Type 0 where
+  -- "All days answered before keep their answers", and a day that was refused otherwise than with 7 keeps its refusal
+  pub kept : judgedStrictly st x earlier ≢ Refused Missing → judged st x earlier ≡ judgedStrictly st x earlier
+  -- "Refusal 7 remains for any other missing reading"
+  pub remains : lacksDewPoint x ≡ false → judged st x earlier ≡ judgedStrictly st x earlier
+  -- without its dew point alone, a day is judged as the same day with the minimum for it was, and its figure has the mark
+  pub substituted : lacksDewPoint x ≡ true → judged st x earlier ≡ estimated (judgedStrictly st (withMinimum x) earlier)
 
 -- ---- the day as it is judged
 

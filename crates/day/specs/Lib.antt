@@ -4,4 +4,3 @@ pub mod Rules
 pub mod Judgement
 pub mod Bound
 pub mod Parts
-pub mod WithoutSubstitute

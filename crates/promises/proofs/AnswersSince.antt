@@ -10,8 +10,9 @@ use lib.Dec.{T}
 use lib.ListN.{length}
 use Rattle.answers.specs.Answers.{dayAnswer, bytesOf}
 use Rattle.answers.specs.declared.Answer.{Answer}
+use Rattle.answers.proofs.Bytes.{bytes-longer}
+use Rattle.answers.proofs.Roles.{bytes-counted}
 use Rattle.day.specs.Judgement.{lacksDewPoint, judged}
-use Rattle.day.specs.WithoutSubstitute.{judgedStrictly, withMinimum, estimated}
 use Rattle.day.specs.declared.Day.{Day}
 use Rattle.day.specs.declared.Refusal.{Refusal}
 use Rattle.day.specs.declared.Refusal.the-variants.{BadDate, Missing}
@@ -19,12 +20,12 @@ use Rattle.day.specs.declared.Station.{Station}
 use Rattle.day.specs.declared.Verdict.{Verdict}
 use Rattle.day.specs.declared.Verdict.the-variants as verdict
 use Rattle.day.proofs.WithoutSubstitute as day-since
+use Rattle.day.proofs.WithoutSubstitute.{judgedStrictly, withMinimum, estimated}
 use Rattle.log.specs.History.{goodDate, earlierMeans, verdictOf}
-use Rattle.log.specs.Log.{BlockRead, Entry, day, byDay, cropAnswers, answersFor, answersBy, answersOf}
-use Rattle.promises.specs.WithoutSubstitute.{verdictStrictly, dayStrictly, answersStrictly, Stays, AllStay, addedAt, addedTo}
-use Rattle.log.proofs.Carried.{none-refused}
-use Rattle.log.proofs.Counted.{answers-longer}
-use Rattle.log.proofs.Laws.{one-most, by-day}
+use Rattle.log.specs.Log.{BlockRead, Entry, day, cropAnswers, answersFor, answersOf}
+use Rattle.log.proofs.Laws.{DayIn, dayIn, Quiet, entry-cases}
+use Rattle.log.proofs.Planted.{none-refused, one-most}
+use Rattle.promises.proofs.WithoutSubstitute.{verdictStrictly, byDay, dayStrictly, answersStrictly, ofRecords, Stays, AllStay, addedAt, addedTo}
 
 -- ---- a day
 
@@ -68,9 +69,9 @@ ofDay b y v = dayAnswer y v ∷ cropAnswers (b .crop) y v
 
 pub answers-stay : (e : Entry) → Stays e → answersFor e ≡ answersStrictly e
 answers-stay =
-    by-day (λ (e : Entry). Stays e → answersFor e ≡ answersStrictly e)
+    entry-cases (λ (e : Entry). Stays e → answersFor e ≡ answersStrictly e) (λ p x stays. refl)
     (λ b y stays. ap (ofDay b y) (verdict-stays (b .station) (b .days) y (stays b y refl)))
-    (λ e other stays. sym (other (List Answer) dayStrictly (answersFor e)))
+    (λ e quiet stays. sym (ap (byDay dayStrictly (answersFor e)) (quiet .no-day)))
 
 pub substituted : (b : BlockRead) (y : Day) → goodDate (b .days) y ≡ true → lacksDewPoint y ≡ true
     → let v = estimated (judgedStrictly (b .station) (withMinimum y) (earlierMeans (b .days) y)) in answersFor (day b y) ≡ dayAnswer y v ∷ cropAnswers (b .crop) y v
@@ -86,21 +87,23 @@ longer b y true e =
       arith,
       ap (λ (v : Verdict). length (bytesOf (cropAnswers (b .crop) y v))) (refused-then .1),
       ap (λ (l : List Answer). length (bytesOf l)) (none-refused (b .crop) y (refused-then .0)),
-      one-most (b .crop) y (verdictOf (b .station) (b .days) y) .nine,
+      bytes-counted (cropAnswers (b .crop) y (verdictOf (b .station) (b .days) y)),
+      one-most (b .crop) y (verdictOf (b .station) (b .days) y),
     )
 longer b y false e =
     omega (arith, ap (λ (v : Verdict). length (bytesOf (ofDay b y v))) (verdict-stays (b .station) (b .days) y (λ lacks. absurd (subst T (sym lacks ∙ e) tt))))
 
-one-longer : (e : Entry) → length (bytesOf (answersFor e)) ≡ length (bytesOf (answersStrictly e)) + 9 * byDay addedAt 0 e
+one-longer : (e : Entry) → length (bytesOf (answersFor e)) ≡ length (bytesOf (answersStrictly e)) + 9 * byDay addedAt 0 (dayIn e)
 one-longer =
-    by-day (λ (e : Entry). length (bytesOf (answersFor e)) ≡ length (bytesOf (answersStrictly e)) + 9 * byDay addedAt 0 e)
+    entry-cases (λ (e : Entry). length (bytesOf (answersFor e)) ≡ length (bytesOf (answersStrictly e)) + 9 * byDay addedAt 0 (dayIn e)) (λ p x. refl)
     (λ b y. longer b y (lacksDewPoint y) refl)
-    (λ e other. omega (arith, ap (λ (l : List Answer). length (bytesOf l)) (other (List Answer) dayStrictly (answersFor e)), other ℕ addedAt 0))
+    (λ e quiet.
+    omega (arith, ap (λ (d : DayIn). length (bytesOf (byDay dayStrictly (answersFor e) d))) (quiet .no-day), ap (byDay addedAt 0) (quiet .no-day)))
 
-pub all-longer : (es : List Entry) → length (bytesOf (answersOf es)) ≡ length (bytesOf (answersBy answersStrictly es)) + 9 * addedTo es
+pub all-longer : (es : List Entry) → length (bytesOf (answersOf es)) ≡ length (bytesOf (ofRecords es)) + 9 * addedTo es
 all-longer [] = refl
-all-longer (e ∷ es) = omega (arith, one-longer e, all-longer es, answers-longer answersStrictly e es, answers-longer answersFor e es)
+all-longer (e ∷ es) = omega (arith, one-longer e, all-longer es, bytes-longer (answersStrictly e) (ofRecords es), bytes-longer (answersFor e) (answersOf es))
 
-pub all-stay : (es : List Entry) → AllStay es → answersOf es ≡ answersBy answersStrictly es
+pub all-stay : (es : List Entry) → AllStay es → answersOf es ≡ ofRecords es
 all-stay [] stay = refl
 all-stay (e ∷ es) stay = λ i. answers-stay e (stay .0) i ++ all-stay es (stay .1) i

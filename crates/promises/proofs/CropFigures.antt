@@ -25,7 +25,7 @@ use Rattle.log.specs.Log.{Planted, planted, cropAnswer, cropAnswers, bufferAfte
 use Rattle.log.specs.declared.Outcome.{Outcome}
 use Rattle.promises.proofs.Days.{answer-at, crop-answer-at}
 use Rattle.promises.proofs.Demand.{marked-bytes, answered, log-within-bound}
-use Rattle.log.proofs.Kept.{station-constants}
+use Rattle.log.proofs.SoundStation.{station-constants}
 use Rattle.promises.proofs.Stations.{station-sound, crop-faultless}
 
 -- a mark hides no figure

@@ -6,7 +6,6 @@ use mathlib.Core.List.{List, [], _∷_, _++_, append-assoc, append-nil}
 use Prim.Native.Nat.{ℕ, _+_}
 use native.Mathlib.Omega.{arith}
 use lib.ListN.{length, take, drop, length-append}
-use lib.Seq.{take-at, drop-at}
 use Rattle.day.specs.Calendar.{isDate}
 use Rattle.day.specs.declared.Day.{Day}
 use Rattle.day.specs.declared.Earlier.{Earlier}
@@ -15,20 +14,11 @@ use Rattle.day.specs.declared.Verdict.{Verdict}
 use Rattle.answers.specs.Answers.{dayAnswer, answerBytes, bytesOf}
 use Rattle.promises.specs.Days.{DayAt, verdictAt}
 use Rattle.log.specs.History.{verdictOf}
-use Rattle.log.specs.Log.{unopened, day, pastAll, cropAnswers, answersFor, answersOf, answersAtEnd, answersIn, answersTo, Reading, outcomeOf, leaves, bufferAfter}
-use Rattle.log.specs.declared.Outcome.{Outcome}
+use Rattle.log.specs.Log.{day, cropAnswers, answersOf, outcomeOf, bufferAfter}
 use Rattle.log.specs.declared.Outcome.the-variants.{Written}
 use Rattle.answers.specs.declared.Answer.{Answer}
-use Rattle.answers.proofs.Bytes.{bytes-append}
-use Rattle.log.proofs.Carried.{good-date}
-use Rattle.log.proofs.Walked.{answers-append, all-bytes}
-
--- ---- the answer
-
--- nine bytes behind the list before them
-nine-at : (before bytes rest : List ℕ) {place : ℕ} → length bytes ≡ 9 → place ≡ length before
-    → take 9 (drop place (before ++ (bytes ++ rest))) ≡ bytes
-nine-at before bytes rest {place} l p = ap (take 9) (drop-at before (bytes ++ rest) place (sym p)) ∙ take-at bytes rest 9 l
+use Rattle.log.proofs.Means.{good-date}
+use Rattle.promises.proofs.RecordPlaces.{part-at, rest, about-record}
 
 -- ---- a day record
 
@@ -48,27 +38,18 @@ module _ {s : List ℕ} {i : ℕ} {x : Station} {y : Day} {earlier : Earlier} {g
     abbrev crops : List ℕ
     crops = bytesOf (cropAnswers (d .block .crop) y (verdictAt x y earlier good))
 
-    abbrev atEnd : List ℕ
-    atEnd = bytesOf (answersAtEnd (pastAll unopened (d .before ++ (day (d .block) y ∷ d .later))))
-
     abbrev back : List ℕ
-    back = bytesOf (answersOf (d .later)) ++ (atEnd ++ drop n buffer)
+    back = rest s buffer e (d .before) (d .later) (day (d .block) y) (d .stands)
 
     whole : bufferAfter s buffer ≡ front ++ (own ++ (crops ++ back))
-    unfolding bufferAfter
     whole =
-        ap (λ (o : Outcome). leaves o (bytesOf (answersTo s)) buffer) e
-        ∙ ap (λ (r : Reading). bytesOf (answersIn r) ++ drop n buffer) (d .stands)
-        ∙ ap (λ (l : List ℕ). l ++ drop n buffer) (all-bytes answersFor (d .before ++ (day (d .block) y ∷ d .later)))
-        ∙ ap (λ (l : List ℕ). (l ++ atEnd) ++ drop n buffer)
-        (answers-append answersFor (d .before) (day (d .block) y ∷ d .later)
-        ∙ ap (λ (l : List ℕ). front ++ l) (bytes-append (answersFor (day (d .block) y)) (answersOf (d .later)))
-        ∙ ap (λ (v : Verdict). front ++ ((answerBytes (dayAnswer y v) ++ bytesOf (cropAnswers (d .block .crop) y v)) ++ bytesOf (answersOf (d .later)))) verdict-is)
-        ∙ simp append-assoc
+        about-record s buffer e (d .before) (d .later) (day (d .block) y) (d .stands)
+        ∙ ap (λ (v : Verdict). front ++ ((answerBytes (dayAnswer y v) ++ bytesOf (cropAnswers (d .block .crop) y v)) ++ back)) verdict-is
+        ∙ ap (λ (l : List ℕ). front ++ l) (append-assoc own crops back)
 
     -- in the buffer that an accepted log leaves, the day's own answer stands at its place
     pub answer-at : take 9 (drop place (bufferAfter s buffer)) ≡ own
-    answer-at = ap (λ (l : List ℕ). take 9 (drop place l)) whole ∙ nine-at front own (crops ++ back) refl (d .behind)
+    answer-at = ap (λ (l : List ℕ). take 9 (drop place l)) whole ∙ part-at front own (crops ++ back) refl (d .behind)
 
     -- and the crop's right behind it
     pub crop-answer-at : {a : Answer} → length (answerBytes a) ≡ 9 → cropAnswers (d .block .crop) y (verdictAt x y earlier good) ≡ a ∷ []
@@ -78,7 +59,7 @@ module _ {s : List ℕ} {i : ℕ} {x : Station} {y : Day} {earlier : Earlier} {g
         (whole ∙ sym (append-assoc front own (crops ++ back))
         ∙ ap (λ (l : List Answer). (front ++ own) ++ (bytesOf l ++ back)) is
         ∙ ap (λ (l : List ℕ). (front ++ own) ++ (l ++ back)) (append-nil (answerBytes a)))
-        ∙ nine-at (front ++ own) (answerBytes a) back {place = place + 9} nine (omega (arith, d .behind, length-append front own))
+        ∙ part-at (front ++ own) (answerBytes a) back {place = place + 9} nine (omega (arith, d .behind, length-append front own))
 
   pub good-in-calendar : good ≡ true → isDate (y .year) (y .d) ≡ true
   good-in-calendar g = good-date (d .block .days) y (sym (d .dated) ∙ g)

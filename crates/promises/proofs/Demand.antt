@@ -17,7 +17,7 @@ use Rattle.answers.specs.Answers.{kindOf, valueOf, dated, dayAnswer, answerByte
 use Rattle.promises.specs.Demand.{AnsweredLog, AnsweredDay, FigureAt, FiguresOwed, EveryFigureWithinBound}
 use Rattle.log.specs.Log.{bufferAfter}
 use Rattle.promises.proofs.Days.{answer-at, good-in-calendar}
-use Rattle.log.proofs.Kept.{station-constants}
+use Rattle.log.proofs.SoundStation.{station-constants}
 use Rattle.promises.proofs.Stations.{station-sound}
 
 -- the mark changes an answer's kind and not its figure

@@ -1,4 +1,5 @@
 -- The lemmas that belong to no one function.
+pub mod RecordPlaces
 pub mod Days
 pub mod Stations
 pub mod Demand
@@ -12,5 +13,6 @@ pub mod TwoParts
 pub mod WithoutKind
 pub mod FirstStation
 pub mod LimitedStations
-pub mod AnswersSince
 pub mod WithoutSubstitute
+pub mod AnswersSince
+pub mod LogSince

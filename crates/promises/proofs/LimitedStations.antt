@@ -1,4 +1,5 @@
--- A station's record of kind 1 and the same as one of kind 8 with the limit 1,500 give the same answers. The theorem is `same-answers`. Assumes nothing.
+-- A station's record of kind 1, as all were before document 02, W2, and the same as one of kind 8 with the limit that kind 1 keeps: two logs that differ in
+-- that record alone have the same answers (`SameAnswers`). The theorem is `same-answers`. Assumes nothing.
 use mathlib.Core.Path.{_≡_, refl, sym, ap, _∙_, subst}
 use mathlib.Core.Bool.{Bool, true, false, cond}
 use mathlib.Core.List.{List, [], _∷_, _++_}
@@ -15,13 +16,49 @@ use Rattle.records.specs.Bytes.{wordAt}
 use Rattle.records.specs.Record.{stationWith, stationAt, limitedStationAt, recordAt}
 use Rattle.records.specs.declared.Record.the-variants as Record
 use Rattle.records.proofs.Alike.{station-alike}
-use Rattle.promises.specs.LimitedStations.{limitBytes, withKindOne, withKindEight, StationThere, twoFurther, SameAnswers}
 use Rattle.log.specs.Log.{Past, unopened, block, opened, Entry, station, pastAll, answersIn}
 use Rattle.log.specs.Log.{Reading, refused, accepted, prepend, readFrom, readingOf, settled, longest, outcomeOf, leaves, bufferAfter}
 use Rattle.log.specs.declared.Outcome.the-variants.{Refused}
 use Rattle.promises.proofs.FirstStation.{openedBy, log, fields-there, first-read}
 use Rattle.promises.proofs.TwoParts.{moved, two-parts}
 use Rattle.log.proofs.Walked.{behind, behind-refused, behind-accepted}
+
+-- ---- the record before, and the one in its place
+
+-- "two more bytes at its end, the limit in tenths": 5 × 256 + 220 is 1,500
+abbrev pub limitBytes : List ℕ
+limitBytes = 5 ∷ 220 ∷ []
+
+-- a log with a station's record of kind 1, and one with kind 8 in its place
+abbrev pub withKindOne : List ℕ → List ℕ → List ℕ → List ℕ
+withKindOne front fields rest = front ++ (1 ∷ (fields ++ rest))
+
+abbrev pub withKindEight : List ℕ → List ℕ → List ℕ → List ℕ
+withKindEight front fields rest = front ++ (8 ∷ (fields ++ (limitBytes ++ rest)))
+
+-- The record stands where a record begins: what is in front of it is a log without a fault. Its fields have the 18 bytes of a station, whatever they say.
+pub record StationThere (front fields : List ℕ) : Type 0 where
+  pub before : List Entry
+  pub whole : readingOf front ≡ accepted before
+  pub eighteen : length fields ≡ 18
+
+-- ---- what has become of it
+
+-- a fault behind the record is found two bytes further on
+abbrev pub twoFurther : ℕ → Reading → Reading
+twoFurther place (refused k at) = refused k (cond (leb at place) at (at + 2))
+twoFurther place (accepted es) = accepted es
+
+-- What the log t has for an answer, of which s differs in the record at `place`: the same records, or the same refusal, two bytes further on where it
+-- stands behind that record. Where t is not too long, the outcome that follows, which is that of s where s is accepted, and the same bytes in every
+-- answer buffer.
+pub record SameAnswers (place : ℕ) (s t : List ℕ) : Type 0 where
+  pub reading : readingOf t ≡ twoFurther place (readingOf s)
+  pub outcome : length t ≤ longest → (size : ℕ) → outcomeOf t size ≡ settled (twoFurther place (readingOf s)) size
+  pub accepted-alike : length t ≤ longest → (es : List Entry) → readingOf s ≡ accepted es → (size : ℕ) → outcomeOf t size ≡ outcomeOf s size
+  pub buffer : length t ≤ longest → (lent : List ℕ) → bufferAfter t lent ≡ bufferAfter s lent
+
+-- ---- the two records
 
 module _ (front fields rest : List ℕ) (there : StationThere front fields) where
   abbrev place : ℕ

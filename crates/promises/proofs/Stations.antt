@@ -9,9 +9,10 @@ use Rattle.day.specs.declared.Day.{Day}
 use Rattle.day.specs.declared.Earlier.{Earlier}
 use Rattle.day.specs.declared.Station.{Station}
 use Rattle.log.specs.Log.{planted, Reading, day, entriesOf}
-use Rattle.log.proofs.Carried.{PlantedSound}
-use Rattle.log.proofs.Kept.{Sound, KeptBlock, Kept}
-use Rattle.log.proofs.Stations.{SoundEntries, sound-at, sound-reading}
+use Rattle.log.proofs.Laws.{KeptBlock, Kept}
+use Rattle.log.proofs.Planted.{PlantedSound}
+use Rattle.log.proofs.SoundRecords.{SoundEntries, sound-at, sound-reading}
+use Rattle.log.proofs.SoundStation.{Sound}
 use Rattle.promises.specs.Days.{DayAt}
 
 module _ (s : List ℕ) {i : ℕ} {x : Station} {y : Day} {earlier : Earlier} {good : Bool} {place : ℕ} (d : DayAt s i x y earlier good place) where

@@ -29,7 +29,7 @@ use Rattle.promises.specs.Demand.{AnsweredLog}
 use Rattle.log.specs.History.{daysBefore, goodDate, counted, earlierMeans, verdictOf}
 use Rattle.log.specs.Log.{planted, cropAnswers, answersTo, readFrom, readingOf, outcomeOf, leaves, bufferAfter}
 use Rattle.log.specs.declared.Outcome.the-variants as outcome
-use Rattle.promises.specs.WithoutKind.{foundWithout, readWithout, readingWithout, Without}
+use Rattle.promises.proofs.WithoutKind.{foundWithout, readWithout, readingWithout, Without}
 use Rattle.promises.proofs.CropFigures.{crop-figures-met}
 use Rattle.promises.proofs.Sample.{sample, station, day-there, windless, beans, lidw, missing, noMean, oneMean, twoMeans}
 

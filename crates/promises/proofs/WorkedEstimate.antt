@@ -12,7 +12,6 @@ use lib.ListN.{length, replicate}
 use Rattle.crops.specs.Crop.{badCrop, inSeason, above, cropFigure}
 use Rattle.day.specs.Calendar.{yearLength, isDate}
 use Rattle.day.specs.Judgement.{holds, standingOf, lacksDewPoint, asJudged, judged, Answered}
-use Rattle.day.specs.WithoutSubstitute.{judgedStrictly}
 use Rattle.day.specs.declared.Day.{Day}
 use Rattle.day.specs.declared.Earlier.{Earlier}
 use Rattle.day.specs.declared.Mean.the-variants.{Present, Absent}
@@ -21,7 +20,7 @@ use Rattle.day.specs.declared.Station.{Station}
 use Rattle.day.specs.declared.Verdict.{Verdict}
 use Rattle.day.specs.declared.Verdict.the-variants.{Figure, Refused, Estimated}
 use Rattle.day.proofs.Examples.{days, estimates}
-use Rattle.day.proofs.WithoutSubstitute.{since}
+use Rattle.day.proofs.WithoutSubstitute.{judgedStrictly, since}
 use Rattle.answers.specs.Answers.{dayAnswer, bytesOf}
 use Rattle.answers.specs.declared.Answer.{Answer}
 use Rattle.answers.specs.declared.Answer.the-variants as answer
@@ -31,11 +30,11 @@ use Rattle.promises.specs.CropFigures.{CropDay, CropFigureAt, CropFigure
 use Rattle.promises.specs.Days.{DayAt}
 use Rattle.promises.specs.Demand.{AnsweredLog, FigureAt, FiguresOwed}
 use Rattle.log.specs.History.{daysBefore, goodDate, counted, earlierMeans, verdictOf}
-use Rattle.log.specs.Log.{planted, cropAnswers, answersInBy, answersTo, readFrom, readingOf, outcomeOf, leaves, bufferAfter}
-use Rattle.promises.specs.WithoutSubstitute.{verdictStrictly, answersStrictly, outcomeStrictly, bufferStrictly}
+use Rattle.log.specs.Log.{planted, cropAnswers, answersTo, readFrom, readingOf, entriesOf, outcomeOf, leaves, bufferAfter}
 use Rattle.log.specs.declared.Outcome.the-variants as outcome
 use Rattle.promises.proofs.CropFigures.{crop-figures-met}
 use Rattle.promises.proofs.Demand.{log-within-bound}
+use Rattle.promises.proofs.WithoutSubstitute.{verdictStrictly, allStrictly, outcomeStrictly, bufferStrictly}
 use Rattle.promises.proofs.Sample.{sample, station, day-there, windless, beans, lidw, missing, noMean, oneMean, twoMeans}
 
 -- day 179 of 2008, 71 °F, neither a dew point nor the wind; day 180: 90, 55 and 72 °F, no dew point, 700 cal/cm²/d, 100 miles
@@ -163,7 +162,7 @@ bytes = λ i. leaves (outcome-is 84 i) (bytesOf (worked i)) lent
 
 -- ---- 73 bytes were needed before
 
-then-worked : answersInBy answersStrictly (readingOf estimateLog) ≡
+then-worked : allStrictly (entriesOf (readingOf estimateLog)) ≡
     all (Refused Missing) (Refused Missing) (Refused Missing) (Refused Missing) (Refused Missing) (Refused Missing) (Figure 0)
 unfolding readingOf readFrom recordAt stationAt dayAt cropAt wordAt signedOf signedAt isDate yearLength daysBefore goodDate counted earlierMeans verdictStrictly badCrop inSeason above cropFigure
 then-worked =

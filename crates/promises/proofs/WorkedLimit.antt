@@ -22,9 +22,9 @@ use Rattle.records.specs.Bytes.{wordAt, signedOf, signedAt}
 use Rattle.records.specs.Record.{stationAt, limitedStationAt, dayAt, recordAt}
 use Rattle.promises.specs.Demand.{AnsweredLog, AnsweredDay, FigureAt, FiguresOwed}
 use Rattle.log.specs.History.{daysBefore, goodDate, counted, earlierMeans, verdictOf}
-use Rattle.promises.specs.LimitedStations.{StationThere}
+use Rattle.promises.proofs.LimitedStations.{StationThere}
 use Rattle.log.specs.Log.{bare, answersTo, readFrom, readingOf, entriesOf, outcomeOf, leaves, bufferAfter}
-use Rattle.promises.specs.WithoutKind.{foundWithout, readWithout, readingWithout, Without}
+use Rattle.promises.proofs.WithoutKind.{foundWithout, readWithout, readingWithout, Without}
 use Rattle.log.specs.declared.Outcome.the-variants as outcome
 use Rattle.promises.proofs.Demand.{log-within-bound}
 use Rattle.promises.proofs.Sample.{sample, fields, station, day-there, windless, lidw, missing, noMean, oneMean, twoMeans}

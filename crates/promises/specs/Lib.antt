@@ -2,6 +2,3 @@
 pub mod Days
 pub mod Demand
 pub mod CropFigures
-pub mod WithoutKind
-pub mod LimitedStations
-pub mod WithoutSubstitute
