@@ -8,7 +8,7 @@ use Prim.Native.Nat.{ℕ, _+_, _*_}
 use native.Mathlib.Omega.{arith}
 use lib.Dec.{T}
 use lib.ListN.{length}
-use Rattle.answers.specs.Answers.{dayAnswer, bytesOf}
+use Rattle.answers.specs.Answers.{bytesOf}
 use Rattle.answers.specs.declared.Answer.{Answer}
 use Rattle.answers.proofs.Bytes.{bytes-longer}
 use Rattle.answers.proofs.Roles.{bytes-counted}
@@ -22,7 +22,7 @@ use Rattle.day.specs.declared.Verdict.the-variants as verdict
 use Rattle.day.proofs.WithoutSubstitute as day-since
 use Rattle.day.proofs.WithoutSubstitute.{judgedStrictly, withMinimum, estimated}
 use Rattle.log.specs.History.{goodDate, earlierMeans, verdictOf}
-use Rattle.log.specs.Log.{BlockRead, Entry, day, cropAnswers, answersFor, answersOf}
+use Rattle.log.specs.Log.{BlockRead, Entry, day, cropAnswers, dayAnswers, answersFor, answersOf}
 use Rattle.log.proofs.Laws.{DayIn, dayIn, Quiet, entry-cases}
 use Rattle.log.proofs.Planted.{none-refused, one-most}
 use Rattle.promises.proofs.WithoutSubstitute.{verdictStrictly, byDay, dayStrictly, answersStrictly, ofRecords, Stays, AllStay, addedAt, addedTo}
@@ -64,18 +64,15 @@ module _ (st : Station) (h : List Day) (y : Day) where
 
 -- ---- a record's answers
 
-abbrev ofDay : BlockRead → Day → Verdict → List Answer
-ofDay b y v = dayAnswer y v ∷ cropAnswers (b .crop) y v
-
 pub answers-stay : (e : Entry) → Stays e → answersFor e ≡ answersStrictly e
 answers-stay =
     entry-cases (λ (e : Entry). Stays e → answersFor e ≡ answersStrictly e) (λ p x stays. refl)
-    (λ b y stays. ap (ofDay b y) (verdict-stays (b .station) (b .days) y (stays b y refl)))
+    (λ b y stays. ap (dayAnswers b y) (verdict-stays (b .station) (b .days) y (stays b y refl)))
     (λ e quiet stays. sym (ap (byDay dayStrictly (answersFor e)) (quiet .no-day)))
 
 pub substituted : (b : BlockRead) (y : Day) → goodDate (b .days) y ≡ true → lacksDewPoint y ≡ true
-    → let v = estimated (judgedStrictly (b .station) (withMinimum y) (earlierMeans (b .days) y)) in answersFor (day b y) ≡ dayAnswer y v ∷ cropAnswers (b .crop) y v
-substituted b y good lacks = ap (ofDay b y) (substituted-verdict (b .station) (b .days) y good lacks)
+    → let v = estimated (judgedStrictly (b .station) (withMinimum y) (earlierMeans (b .days) y)) in answersFor (day b y) ≡ dayAnswers b y v
+substituted b y good lacks = ap (dayAnswers b y) (substituted-verdict (b .station) (b .days) y good lacks)
 
 -- a day has nine bytes more for a crop answer that was added
 longer : (b : BlockRead) (y : Day) (lacks : Bool) → lacksDewPoint y ≡ lacks →
@@ -91,7 +88,7 @@ longer b y true e =
       one-most (b .crop) y (verdictOf (b .station) (b .days) y),
     )
 longer b y false e =
-    omega (arith, ap (λ (v : Verdict). length (bytesOf (ofDay b y v))) (verdict-stays (b .station) (b .days) y (λ lacks. absurd (subst T (sym lacks ∙ e) tt))))
+    omega (arith, ap (λ (v : Verdict). length (bytesOf (dayAnswers b y v))) (verdict-stays (b .station) (b .days) y (λ lacks. absurd (subst T (sym lacks ∙ e) tt))))
 
 one-longer : (e : Entry) → length (bytesOf (answersFor e)) ≡ length (bytesOf (answersStrictly e)) + 9 * byDay addedAt 0 (dayIn e)
 one-longer =
