@@ -15,7 +15,7 @@ use Rattle.day.specs.declared.Station.{Station}
 use Rattle.records.specs.Bytes.{wordAt}
 use Rattle.records.specs.Record.{stationWith, stationAt, limitedStationAt, recordAt}
 use Rattle.records.specs.declared.Record.the-variants as Record
-use Rattle.records.proofs.Alike.{station-alike}
+use Rattle.records.proofs.Bodies.{station-alike}
 use Rattle.log.specs.Log.{Past, unopened, block, opened, Entry, station, pastAll, answersIn}
 use Rattle.log.specs.Log.{Reading, refused, accepted, prepend, readFrom, readingOf, settled, longest, outcomeOf, leaves, bufferAfter}
 use Rattle.log.specs.declared.Outcome.the-variants.{Refused}

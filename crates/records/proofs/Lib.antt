@@ -1,6 +1,7 @@
 -- The lemmas that belong to no one function.
 pub mod Choice
 pub mod Signed
-pub mod RecordCases
 pub mod Alike
+pub mod Bodies
+pub mod FoundThere
 pub mod Part
