@@ -4,7 +4,7 @@ use mathlib.Core.Bool.{Bool, true, false, cond}
 use mathlib.Core.List.{List, [], _∷_, _++_}
 use mathlib.Core.Logic.{_≢_}
 use mathlib.Core.Path.{_≡_, refl, sym, ap, subst, _∙_}
-use Prim.Native.Nat.{ℕ, _+_, _*_}
+use Prim.Native.Nat.{_+_, _*_}
 use native.Mathlib.Omega.{arith}
 use lib.Dec.{T}
 use lib.ListN.{length}
@@ -23,7 +23,7 @@ use Rattle.day.proofs.WithoutSubstitute as day-since
 use Rattle.day.proofs.WithoutSubstitute.{judgedStrictly, withMinimum, estimated}
 use Rattle.log.specs.History.{goodDate, earlierMeans, verdictOf}
 use Rattle.log.specs.Log.{BlockRead, Entry, day, cropAnswers, dayAnswers, answersFor, answersOf}
-use Rattle.log.proofs.Laws.{DayIn, dayIn, Quiet, entry-cases}
+use Rattle.log.proofs.Laws.{DayIn, dayIn, entry-cases}
 use Rattle.log.proofs.Planted.{none-refused, one-most}
 use Rattle.promises.proofs.WithoutSubstitute.{verdictStrictly, byDay, dayStrictly, answersStrictly, ofRecords, Stays, AllStay, addedAt, addedTo}
 

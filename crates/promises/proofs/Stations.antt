@@ -1,5 +1,5 @@
 -- The station of each day record of a log has no fault (`station-sound`), nor has the crop that holds there (`crop-faultless`). Assumes nothing.
-use mathlib.Core.Path.{_≡_, ap, subst}
+use mathlib.Core.Path.{_≡_, subst}
 use mathlib.Core.Bool.{Bool, false}
 use mathlib.Core.List.{List}
 use Prim.Native.Nat.{ℕ}

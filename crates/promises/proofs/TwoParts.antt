@@ -1,7 +1,7 @@
 -- A log of two parts whose first is accepted by itself: its reading is the first part's entries, and then what the second part gives behind them, with
 -- each fault's offset moved by the first part's length. The theorem is `two-parts`. Assumes nothing.
 use mathlib.Core.Path.{_≡_, refl, ap, _∙_, subst}
-use mathlib.Core.List.{List, [], _∷_, _++_}
+use mathlib.Core.List.{List, _++_}
 use Prim.Native.Nat.{ℕ, zero, suc, _+_, _<_, _≤_}
 use native.Mathlib.Omega.{arith}
 use lib.ListN.{length, length-append}
