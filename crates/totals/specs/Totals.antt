@@ -3,8 +3,8 @@ use mathlib.Core.Bool.{Bool, true, cond, _&&_}
 use mathlib.Core.List.{List, [], _∷_, _++_}
 use Prim.Native.Nat.{ℕ, zero, suc, _+_}
 use lib.Dec.{eqb}
+use Rattle.answers.specs.Answers.{Role, opens, ofDay, beside, roleOf}
 use Rattle.answers.specs.declared.Answer.{Answer}
-use Rattle.answers.specs.declared.Answer.the-variants as answer
 use Rattle.day.specs.declared.Verdict.the-variants as verdict
 use Rattle.totals.specs.Months.{yearAt, monthAt, monthOf}
 use Rattle.totals.specs.declared.tally.Counted.{Counted}
@@ -12,12 +12,15 @@ use Rattle.totals.specs.declared.tally.Counted.the-variants.{Nothing, Da
 use Rattle.totals.specs.declared.tally.Total.{Total}
 
 -- a day, with its figure, of a month: "the figures in the block's kind 3 and 9 answers"; "Kind 4 answers add nothing", nor do the others
+abbrev pub countedIn : Role → Counted
+countedIn (opens code) = Nothing
+countedIn (ofDay year d (verdict.Figure n)) = Day year (monthOf year d) n
+countedIn (ofDay year d (verdict.Refused r)) = Nothing
+countedIn (ofDay year d (verdict.Estimated n)) = Day year (monthOf year d) n
+countedIn beside = Nothing
+
 abbrev pub countedOf : Answer → Counted
-countedOf (answer.Station code) = Nothing
-countedOf (answer.Day year d (verdict.Figure n)) = Day year (monthOf year d) n
-countedOf (answer.Day year d (verdict.Refused r)) = Nothing
-countedOf (answer.Day year d (verdict.Estimated n)) = Day year (monthOf year d) n
-countedOf (answer.Crop code n) = Nothing
+countedOf a = countedIn (roleOf a)
 
 -- days answered, and the sum of their figures: of none, of one, and of two totals together
 abbrev pub none : Total
