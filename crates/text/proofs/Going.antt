@@ -1,25 +1,19 @@
 -- The walk over the answers of a log that has come to an index: what the next answer makes of it (`one-more`), and what it is at the end
 -- (`all-laid`). Of what an answer prints it is known that all the answers left print its own line and then what those behind it print. None of these laws
--- names a kind of answer but `some-bytes`. Assumes nothing.
+-- names a kind of answer. Assumes nothing.
 use mathlib.Core.Path.{_≡_, refl, sym, ap, _∙_, subst}
 use mathlib.Core.Bool.{Bool, true}
 use mathlib.Core.List.{List, [], _∷_, _++_, append-assoc, append-nil}
 use Prim.Native.Nat.{ℕ, _+_, _≤_, _<_}
 use native.Mathlib.Omega.{arith}
-use lib.Dec.{lit≤}
 use lib.ListN.{length, drop, length-append}
 use lib.Seq.{drop-at, drop-drop}
 use Rattle.answers.specs.Answers.{answerBytes, bytesOf}
 use Rattle.answers.specs.ReadBack.{StandsAt}
 use Rattle.answers.specs.declared.Answer.{Answer}
-use Rattle.answers.specs.declared.Answer.the-variants as answer
+use Rattle.answers.proofs.Roles.{some-bytes}
 use Rattle.text.specs.Walk.{Holds, Room, Laid}
 use Rattle.text.proofs.Laid.{laid-none, then-laid}
-
-pub some-bytes : (a : Answer) → 1 ≤ length (answerBytes a)
-some-bytes (answer.Station code) = lit≤ tt
-some-bytes (answer.Day year d verdict) = lit≤ tt
-some-bytes (answer.Crop code n) = lit≤ tt
 
 -- Of the lines `all`, those `done` are laid; the answers `left`, from the index `at` on, print the others. The buffer was `before`.
 pub record Going (s : List ℕ) (n : ℕ) (writes : Bool) (before : List ℕ) (start : ℕ) (text : List ℕ) (at to : ℕ) (print : List Answer → List ℕ) (all : List ℕ)

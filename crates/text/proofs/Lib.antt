@@ -1,4 +1,5 @@
 -- The lemmas that belong to no one function.
+pub mod Laws
 pub mod Laid
 pub mod Blocks
 pub mod Going

@@ -1,6 +1,6 @@
 -- No report is longer than 223,457 bytes (`report-most`), and no total of a block larger than those of the most days that a log can have, each with the
 -- largest figure (`totals-most`). The theorem is `long-enough`. Assumes nothing.
-use mathlib.Core.Path.{_≡_, sym, ap, subst}
+use mathlib.Core.Path.{_≡_, ap, subst}
 use mathlib.Core.Bool.{Bool}
 use mathlib.Core.List.{List, _∷_, _++_}
 use Prim.Native.Nat.{ℕ, _≤_}
@@ -13,6 +13,7 @@ use Rattle.answers.specs.declared.Answer.the-variants as answer
 use Rattle.day.specs.declared.Code.{Code}
 use Rattle.records.proofs.Choice.{by-cond}
 use Rattle.answers.specs.Answers.{bytesOf}
+use Rattle.answers.proofs.Roles.{count}
 use Rattle.log.specs.Log.{longest, longestAnswers, answersTo, readingOf, outcomeOf, settled}
 use Rattle.log.specs.declared.Outcome.{Outcome}
 use Rattle.log.specs.declared.Outcome.the-variants as outcome
@@ -23,8 +24,8 @@ use Rattle.text.specs.Totals.{BlockOf}
 use Rattle.text.specs.Report.{own, linesOf, textOf, reportOf, wholeReport, AreBytes, LongEnough}
 use Rattle.text.specs.Walk.{longestReport}
 use Rattle.text.proofs.DateOrder.{answers-ordered}
-use Rattle.text.proofs.Sizes.{daysIn, AllSmall, rest-small, rest-fewer, own-small, own-fewer, Bounded, total-most, lines-most}
-use Rattle.text.proofs.SmallAnswers.{all-small, all-counts}
+use Rattle.text.proofs.Sizes.{AllSmall, rest-small, rest-fewer, own-small, own-fewer, total-most, lines-most}
+use Rattle.text.proofs.SmallAnswers.{all-small}
 use Rattle.lines.specs.Text.{header}
 use Rattle.lines.proofs.Lengths.{refused-line-most}
 
@@ -38,8 +39,7 @@ module _ (s : List ℕ) (bytes : AreBytes s) where
       omega (
         arith,
         length-append header (linesOf (answersTo s)),
-        lines-most (answersTo s) (all-small s bytes) (answers-ordered s) (omega (arith, all-counts s .0, room .1)),
-        all-counts s .1,
+        lines-most (answersTo s) (all-small s bytes) (answers-ordered s) (room .1),
         room .0,
       )
 
@@ -47,19 +47,12 @@ module _ (s : List ℕ) (bytes : AreBytes s) where
   pub totals-most : length s ≤ longest → (chosen : ℕ → ℕ → Bool) {code : Code} {answers : List Answer} → BlockOf s code answers
       → let t = totalOf chosen answers in (t .days ≤ 3_853) × (t .sum ≤ 308_240_000)
   totals-most short chosen {code} b =
-      let small = rest-small (b .before) (answer.Station code ∷ b .rest) (subst AllSmall (b .stands) (all-small s bytes)) in
-      let t = subst (λ (l : List Answer). Bounded (daysIn l) (totalOf chosen l)) (sym (b .its)) (total-most chosen (own (b .rest)) (own-small (b .rest) (small .1))) in
-      let few : daysIn (own (b .rest)) ≤ 3_853 =
-      omega (
-        arith,
-        own-fewer (b .rest),
-        rest-fewer (b .before) (answer.Station code ∷ b .rest),
-        ap daysIn (b .stands),
-        all-counts s .0,
-        lines-room s short .1,
-      ) in
-      let own-days = ap daysIn (b .its) in
-      (omega (arith, t .0, few, own-days), omega (arith, t .0, t .1, few, own-days))
+      let behind = answer.Station code ∷ b .rest in
+      let small = own-small (b .rest) (rest-small (b .before) behind (subst AllSmall (b .stands) (all-small s bytes)) .1) in
+      let t = total-most chosen (own (b .rest)) small in
+      let days = ap (λ (l : List Answer). count l .days) (b .stands) in
+      let few : count (own (b .rest)) .days ≤ 3_853 = omega (arith, own-fewer (b .rest), rest-fewer (b .before) behind, days, lines-room s short .1) in
+      rw (b .its) (omega (arith, t .0, few), omega (arith, t .0, t .1, few))
 
   refused-short : (number value : ℕ) → Small (outcome.Refused number value) → Short (outcome.Refused number value)
   refused-short number value small =

@@ -1,7 +1,7 @@
--- How long the lines of some answers are, by their number: 45 bytes for a day, 13 for a crop figure and 25 for a station at most (`lines-most`), where
--- no day's own line has more than 23 and no crop's more than 13 (`AllSmall`). A month's line has no more than 22 for each of its days, so that it
--- counts for them. A block's totals are no larger than those of its days, each with the largest figure (`total-most`). Assumes nothing.
-use mathlib.Core.Path.{_≡_, ap}
+-- How long the lines of some answers are, by how many there are of each kind (`lines-most`): each one's own line, where it fits (`AllSmall`), 22 bytes for
+-- a day, since a month's line has no more for each of its days, and 25 for a station's season. A block's totals are no larger than those of its days, each
+-- with the largest figure (`total-most`). Assumes nothing.
+use mathlib.Core.Path.{_≡_, ap, subst}
 use mathlib.Core.Bool.{Bool, true, false, cond}
 use mathlib.Core.List.{List, [], _∷_, _++_}
 use mathlib.Core.Logic.{⊎-elim}
@@ -11,68 +11,54 @@ use native.Mathlib.Omega.{arith}
 use lib.Dec.{eqb}
 use lib.ListN.{length, length-append}
 use borrow.Author.Tests.{eqb-false}
+use Rattle.answers.specs.Answers.{Role, opens, ofDay, beside, roleOf}
 use Rattle.answers.specs.declared.Answer.{Answer}
-use Rattle.answers.specs.declared.Answer.the-variants as answer
-use Rattle.day.specs.Bound.{FigureAtMost}
+use Rattle.answers.proofs.Roles.{Count, count, count-append, Moderate}
 use Rattle.day.specs.declared.Code.{Code}
 use Rattle.day.specs.declared.Verdict.the-variants.{Figure, Refused, Estimated}
 use Rattle.day.proofs.FigureLimit.{mostFigure}
-use Rattle.lines.specs.Text.{dayLine, cropLine}
 use Rattle.lines.proofs.Lengths.{month-line-of-log, month-line-of-day, season-line-of-log}
 use Rattle.log.proofs.Longest.{mostDays}
 use Rattle.records.proofs.Choice.{by-cond}
 use Rattle.totals.specs.Months.{monthOf, yearAt, monthAt, months}
 use Rattle.totals.specs.Tally.{InMonthOrder}
-use Rattle.totals.specs.Totals.{none, one, plus, totalOf, isMonth, monthTotal, seasonTotal, eachMonth, together}
+use Rattle.totals.specs.Totals.{countedIn, none, one, plus, shareOf, totalOf, isMonth, monthTotal, seasonTotal, eachMonth, together}
 use Rattle.totals.specs.declared.tally.Total.{Total}
 use Rattle.totals.proofs.Shares.{season-is-months}
-use Rattle.text.specs.Report.{answerLines, monthText, seasonText, aboutBlock, own, linesOf}
-use Rattle.text.specs.Walk.{Ordered}
+use Rattle.text.specs.Report.{lineOf, answerLines, monthText, seasonText, aboutBlock, ownFrom, own, blockLines, linesOf}
+use Rattle.text.specs.Walk.{BlockOrdered, Ordered}
+use Rattle.text.proofs.Blocks.{own-front}
+use Rattle.text.proofs.Laws.{lineRoom, LineFits, Owed, owed}
 
--- ---- the answers by their kinds
+-- ---- small answers
 
-abbrev pub daysIn : List Answer → ℕ
-daysIn [] = 0
-daysIn (answer.Station code ∷ rest) = daysIn rest
-daysIn (answer.Day year d v ∷ rest) = 1 + daysIn rest
-daysIn (answer.Crop code n ∷ rest) = daysIn rest
-
-abbrev pub weight : List Answer → ℕ
-weight [] = 0
-weight (answer.Station code ∷ rest) = 25 + weight rest
-weight (answer.Day year d v ∷ rest) = 45 + weight rest
-weight (answer.Crop code n ∷ rest) = 13 + weight rest
-
+-- its line fits, and its figure is no larger than a figure can be
 abbrev pub Small : Answer → Type 0
-Small (answer.Station code) = Unit {0}
-Small (answer.Day year d v) = ((block : Code) → length (dayLine block year d v) ≤ 23) × FigureAtMost mostFigure v
-Small (answer.Crop code n) = length (cropLine code n) ≤ 13
+Small a = LineFits a × Moderate a
 
 abbrev pub AllSmall : List Answer → Type 0
 AllSmall [] = Unit {0}
 AllSmall (a ∷ rest) = Small a × AllSmall rest
 
+front-small : (l rest : List Answer) → AllSmall (l ++ rest) → AllSmall l
+front-small [] rest h = tt
+front-small (a ∷ l) rest h = (h .0, front-small l rest (h .1))
+
 pub rest-small : (before rest : List Answer) → AllSmall (before ++ rest) → AllSmall rest
 rest-small [] rest h = h
 rest-small (a ∷ before) rest h = rest-small before rest (h .1)
 
-pub rest-fewer : (before rest : List Answer) → daysIn rest ≤ daysIn (before ++ rest)
-rest-fewer [] rest = omega arith
-rest-fewer (answer.Station code ∷ before) rest = rest-fewer before rest
-rest-fewer (answer.Day year d v ∷ before) rest = omega (arith, rest-fewer before rest)
-rest-fewer (answer.Crop code n ∷ before) rest = rest-fewer before rest
+pub rest-fewer : (before rest : List Answer) → count rest .days ≤ count (before ++ rest) .days
+rest-fewer before rest = omega (arith, ap (λ (c : Count). c .days) (count-append before rest))
 
+-- a block's own are no more
 pub own-small : (l : List Answer) → AllSmall l → AllSmall (own l)
-own-small [] h = tt
-own-small (answer.Station code ∷ rest) h = tt
-own-small (answer.Day year d v ∷ rest) h = (h .0, own-small rest (h .1))
-own-small (answer.Crop code n ∷ rest) h = (h .0, own-small rest (h .1))
+own-small l h = let front = own-front l in front-small (own l) (front .0) (subst AllSmall (front .1) h)
 
-pub own-fewer : (l : List Answer) → daysIn (own l) ≤ daysIn l
-own-fewer [] = omega arith
-own-fewer (answer.Station code ∷ rest) = omega arith
-own-fewer (answer.Day year d v ∷ rest) = omega (arith, own-fewer rest)
-own-fewer (answer.Crop code n ∷ rest) = own-fewer rest
+pub own-fewer : (l : List Answer) → count (own l) .days ≤ count l .days
+own-fewer l =
+    let front = own-front l in
+    omega (arith, ap (λ (l : List Answer). count l .days) (front .1), ap (λ (c : Count). c .days) (count-append (own l) (front .0)))
 
 -- ---- totals
 
@@ -81,33 +67,32 @@ abbrev pub Bounded : ℕ → Total → Type 0
 Bounded days t = (t .days ≤ days) × (t .sum ≤ mostFigure * t .days)
 
 -- an answer adds a day at most
-with-one : (b : Bool) (n : ℕ) → n ≤ mostFigure → {k : ℕ} (t : Total) → Bounded k t → Bounded (1 + k) (plus (cond b (one n) none) t)
-with-one true n small t h = (omega (arith, h .0), omega (arith, h .1, small))
-with-one false n small t h = (omega (arith, h .0), omega (arith, h .1))
+module _ {few days : ℕ} (t : Total) (h : Bounded few t) where
+  with-one : few < days → (b : Bool) {n : ℕ} → n ≤ mostFigure → Bounded days (plus (cond b (one n) none) t)
+  with-one more true small = (omega (arith, h .0), omega (arith, h .1, small))
+  with-one more false small = (omega (arith, h .0), omega (arith, h .1))
 
-with-none : {k : ℕ} (t : Total) → Bounded k t → Bounded k (plus none t)
-with-none t h = (omega (arith, h .0), omega (arith, h .1))
+  with-none : few ≤ days → Bounded days (plus none t)
+  with-none more = (omega (arith, h .0), omega (arith, h .1))
 
-pub total-most : (chosen : ℕ → ℕ → Bool) (l : List Answer) → AllSmall l → Bounded (daysIn l) (totalOf chosen l)
+pub total-most : (chosen : ℕ → ℕ → Bool) (l : List Answer) → AllSmall l → Bounded (count l .days) (totalOf chosen l)
 total-most chosen [] h = (omega arith, omega arith)
-total-most chosen (answer.Station code ∷ rest) h = with-none (totalOf chosen rest) (total-most chosen rest (h .1))
-total-most chosen (answer.Day year d (Figure n) ∷ rest) h =
-    with-one (chosen year (monthOf year d)) n (h .0 .1) (totalOf chosen rest) (total-most chosen rest (h .1))
-total-most chosen (answer.Day year d (Refused r) ∷ rest) h =
-    let m = with-none (totalOf chosen rest) (total-most chosen rest (h .1)) in (omega (arith, m .0), m .1)
-total-most chosen (answer.Day year d (Estimated n) ∷ rest) h =
-    with-one (chosen year (monthOf year d)) n (h .0 .1) (totalOf chosen rest) (total-most chosen rest (h .1))
-total-most chosen (answer.Crop code n ∷ rest) h = with-none (totalOf chosen rest) (total-most chosen rest (h .1))
+total-most chosen (a ∷ rest) h = by (roleOf a) (owed a (h .0 .1)) (total-most chosen rest (h .1))
+  where
+    by : (r : Role) → Owed r a → Bounded (count rest .days) (totalOf chosen rest)
+        → Bounded (count (a ∷ rest) .days) (plus (shareOf chosen (countedIn r)) (totalOf chosen rest))
+    by (opens code) o most = with-none (totalOf chosen rest) most (omega arith)
+    by (ofDay year d (Figure n)) o most = with-one (totalOf chosen rest) most (omega (arith, o .1)) (chosen year (monthOf year d)) (o .0)
+    by (ofDay year d (Refused why)) o most = with-none (totalOf chosen rest) most (omega arith)
+    by (ofDay year d (Estimated n)) o most = with-one (totalOf chosen rest) most (omega (arith, o .1)) (chosen year (monthOf year d)) (o .0)
+    by beside o most = with-none (totalOf chosen rest) most (omega arith)
 
 -- ---- the lines of one block
 
 module _ (code : Code) where
-  answers-most : (l : List Answer) → AllSmall l → length (answerLines code l) + 22 * daysIn l ≤ weight l
+  answers-most : (l : List Answer) → AllSmall l → length (answerLines code l) ≤ lineRoom (count l)
   answers-most [] h = omega arith
-  answers-most (answer.Station next ∷ rest) h = omega (arith, answers-most rest (h .1))
-  answers-most (answer.Day year d v ∷ rest) h =
-      omega (arith, answers-most rest (h .1), h .0 .0 code, length-append (dayLine code year d v) (answerLines code rest))
-  answers-most (answer.Crop crop n ∷ rest) h = omega (arith, answers-most rest (h .1), h .0, length-append (cropLine crop n) (answerLines code rest))
+  answers-most (a ∷ rest) h = omega (arith, answers-most rest (h .1), h .0 .0 code, length-append (lineOf code a) (answerLines code rest))
 
   -- a month without a day, of one, and of more
   month-most : (k : ℕ) → k < months → (t : Total) → Bounded mostDays t → length (monthText code (yearAt k) (monthAt k) t) ≤ 22 * t .days
@@ -136,7 +121,7 @@ module _ (code : Code) where
         length-append (eachMonth (monthText code) total k) (monthText code (yearAt k) (monthAt k) (total (yearAt k) (monthAt k))),
       )
 
-  about-most : (l : List Answer) → AllSmall l → InMonthOrder 0 l → daysIn l ≤ mostDays → length (aboutBlock code l) ≤ 22 * daysIn l + 25
+  about-most : (l : List Answer) → AllSmall l → InMonthOrder 0 l → count l .days ≤ mostDays → length (aboutBlock code l) ≤ 22 * count l .days + 25
   about-most l small ordered few =
       let season = total-most (λ year month. true) l small in
       omega (
@@ -150,16 +135,27 @@ module _ (code : Code) where
 
 -- ---- block after block
 
-pub lines-most : (l : List Answer) → AllSmall l → Ordered l → daysIn l ≤ mostDays → length (linesOf l) + weight (own l) ≤ weight l
+-- each one's own line, 22 bytes for a day in its month's line, and 25 for a station's season
+abbrev pub weight : List Answer → ℕ
+weight l = lineRoom (count l) + 22 * count l .days + 25 * count l .stations
+
+pub lines-most : (l : List Answer) → AllSmall l → Ordered l → count l .days ≤ mostDays → length (linesOf l) + weight (own l) ≤ weight l
 lines-most [] small ordered few = omega arith
-lines-most (answer.Station code ∷ rest) small ordered few =
-    omega (
-      arith,
-      lines-most rest (small .1) (ordered .1) few,
-      answers-most code (own rest) (own-small rest (small .1)),
-      about-most code (own rest) (own-small rest (small .1)) (ordered .0) (omega (arith, own-fewer rest, few)),
-      length-append (answerLines code (own rest)) (aboutBlock code (own rest) ++ linesOf rest),
-      length-append (aboutBlock code (own rest)) (linesOf rest),
-    )
-lines-most (answer.Day year d v ∷ rest) small ordered few = omega (arith, lines-most rest (small .1) ordered (omega (arith, few)))
-lines-most (answer.Crop code n ∷ rest) small ordered few = omega (arith, lines-most rest (small .1) ordered few)
+lines-most (a ∷ rest) small ordered few =
+    by (roleOf a) (owed a (small .0 .1)) (ordered .0) (lines-most rest (small .1) (ordered .1) (omega (arith, few)))
+  where
+    by : (r : Role) → Owed r a → BlockOrdered r rest → length (linesOf rest) + weight (own rest) ≤ weight rest
+        → length (blockLines r rest ++ linesOf rest) + weight (ownFrom r a (own rest)) ≤ weight (a ∷ rest)
+    by (opens code) o in-order later =
+        let small-own = own-small rest (small .1) in
+        omega (
+          arith,
+          later,
+          o,
+          answers-most code (own rest) small-own,
+          about-most code (own rest) small-own in-order (omega (arith, own-fewer rest, few)),
+          length-append (blockLines (opens code) rest) (linesOf rest),
+          length-append (answerLines code (own rest)) (aboutBlock code (own rest)),
+        )
+    by (ofDay year d v) o in-order later = omega (arith, later)
+    by beside o in-order later = omega (arith, later)

@@ -1,15 +1,15 @@
--- The answers of a log are small: no day's line is longer than 23 bytes (`line-most`), no crop's than 13 (`crop-most`), and no figure above the largest
--- (`all-small`); and how many there are, by the log's records (`all-counts`). Assumes nothing.
-use mathlib.Core.Path.{_≡_, refl, ap}
-use mathlib.Core.Bool.{true, false, not}
-use mathlib.Core.List.{List, [], _∷_, _++_, append-assoc}
-use Prim.Native.Nat.{ℕ, _+_, _*_, _≤_, _<_}
+-- The answers of a log are small (`all-small`): no day's line is longer than 23 bytes (`line-most`), and any other answer's line fits where its figure is
+-- moderate. Assumes nothing.
+use mathlib.Core.Path.{_≡_, ap, subst}
+use mathlib.Core.Bool.{true, not}
+use mathlib.Core.List.{List, [], _∷_, _++_}
+use Prim.Native.Nat.{ℕ, _+_, _≤_, _<_}
 use native.Mathlib.Omega.{arith}
+use lib.Dec.{lit≤}
 use lib.ListN.{length}
+use Rattle.answers.specs.Answers.{Role}
 use Rattle.answers.specs.declared.Answer.{Answer}
-use Rattle.crops.specs.Crop.{badCrop, inSeason, cropFigure}
-use Rattle.crops.specs.declared.Crop.{Crop}
-use Rattle.crops.proofs.CropFigure.{twice-most}
+use Rattle.answers.proofs.Roles.{AllBeside, AllModerate}
 use Rattle.day.specs.Calendar.{isDate}
 use Rattle.day.specs.Judgement.{holds, judged}
 use Rattle.day.specs.declared.Code.{Code}
@@ -20,42 +20,31 @@ use Rattle.day.specs.declared.Station.{Station}
 use Rattle.day.specs.declared.Verdict.{Verdict}
 use Rattle.day.specs.declared.Verdict.the-variants.{Figure, Refused, Estimated}
 use Rattle.day.specs.Bound.{FigureAtMost}
+use Rattle.day.proofs.Dates.{date-tells}
 use Rattle.day.proofs.FigureLimit.{mostFigure, figure-most}
 use Rattle.day.proofs.Passed.{day-high}
 use Rattle.records.specs.Bytes.{wordAt}
 use Rattle.records.specs.Record.{dayAt}
 use Rattle.records.proofs.Choice.{by-cond}
 use Rattle.log.specs.History.{goodDate, earlierMeans, verdictOf}
-use Rattle.log.specs.Log.{Planted, bare, planted, Past, unopened, Entry, station, day, crop, pastAll, cropAnswer, cropAnswers, answersFor, answersOf, answersAtEnd, answersIn, answersTo}
+use Rattle.log.specs.Log.{unopened, Entry, day, pastAll, cropAnswers, answersFor, answersOf, answersAtEnd, answersIn, answersTo}
 use Rattle.log.specs.Log.{Reading, refused, accepted, readingOf, entriesOf}
-use Rattle.day.proofs.Dates.{date-tells}
-use Rattle.log.proofs.Carried.{PlantedSound, good-date}
-use Rattle.log.proofs.Counted.{stationsOf, daysOf, figuresOf}
-use Rattle.log.proofs.Kept.{Sound, Kept, station-constants}
-use Rattle.log.proofs.Laws.{tally}
-use Rattle.log.proofs.Stations.{SoundEntry, SoundEntries, sound-reading}
+use Rattle.log.proofs.Laws.{Kept, moderate, entry-cases, end-beside, end-moderate}
+use Rattle.log.proofs.Means.{good-date}
+use Rattle.log.proofs.Planted.{one-most}
+use Rattle.log.proofs.SoundRecords.{SoundEntry, SoundEntries, sound-reading}
+use Rattle.log.proofs.SoundStation.{Sound, station-constants}
 use Rattle.text.specs.Report.{AreBytes}
-use Rattle.text.proofs.Sizes.{daysIn, weight, AllSmall}
-use Rattle.lines.specs.Text.{verdictText, dayLine, cropLine}
+use Rattle.text.proofs.Laws.{Owed, owed}
+use Rattle.text.proofs.Sizes.{AllSmall}
+use Rattle.lines.specs.Text.{verdictText, dayLine}
 use Rattle.lines.proofs.Digits.{padded-most, inches-most}
-use Rattle.lines.proofs.Lengths.{refusal-most, estimate-size, day-line-size, crop-line-size}
+use Rattle.lines.proofs.Lengths.{refusal-most, estimate-size, day-line-size}
 
--- ---- a crop's line: two digits before the point at most
-
-crop-most : (c : Crop) (y : Day) → badCrop c ≡ false → {n : ℕ} → n ≤ mostFigure → length (cropLine (c .code) (cropFigure c (y .d) n)) ≤ 13
-crop-most c y good {n} small =
-    let m = cropFigure c (y .d) n in
-    let twice : m ≤ 160_000 = omega (arith, twice-most c good (y .d) n) in
-    omega (arith, crop-line-size (c .code) m, inches-most 1 m (omega arith))
-
-crop-small : (c : Crop) (y : Day) → badCrop c ≡ false → {n : ℕ} → n ≤ mostFigure → AllSmall (cropAnswer c y n)
-crop-small c y sound {n} small = by-cond AllSmall (inSeason c (y .year) (y .d)) (λ e. (crop-most c y sound small, tt)) (λ e. tt)
-
-crops-small : (pl : Planted) (y : Day) (v : Verdict) → PlantedSound pl → FigureAtMost mostFigure v → AllSmall (cropAnswers pl y v)
-crops-small bare y v sound small = tt
-crops-small (planted c) y (Refused r) sound small = tt
-crops-small (planted c) y (Figure n) sound small = crop-small c y sound small
-crops-small (planted c) y (Estimated n) sound small = crop-small c y sound small
+-- answers beside those of stations and days
+beside-small : (l : List Answer) → AllBeside l → AllModerate l → AllSmall l
+beside-small [] b m = tt
+beside-small (a ∷ l) b m = ((subst (λ (r : Role). Owed r a) (b .0) (owed a (m .0)), m .0), beside-small l (b .1) (m .1))
 
 both-small : (l rest : List Answer) → AllSmall l → AllSmall rest → AllSmall (l ++ rest)
 both-small [] rest h g = g
@@ -108,31 +97,24 @@ module _ (s : List ℕ) (bytes : AreBytes s) where
         by (Refused r) small date = refused-most r
         by (Estimated n) small date = dated-line-most date (Estimated n) (omega (arith, estimate-size n, inches-most 0 n (omega arith)))
 
-  figure-small : (x : Station) (h : List Day) (y : Day) → Sound s x → FigureAtMost mostFigure (verdictOf x h y)
-  unfolding verdictOf
-  figure-small x h y sound =
-      by-cond (FigureAtMost mostFigure) (goodDate h y) (λ good. figure-most x y (earlierMeans h y) (station-constants sound)) (λ bad. tt)
-
   -- ---- the answers
 
   entry-small : (e : Entry) → SoundEntry s e → AllSmall (answersFor e)
   unfolding Kept
-  entry-small (station p x) f = (tt, tt)
-  entry-small (crop b c) f = tt
-  entry-small (day b y) f =
+  entry-small =
+      entry-cases (λ (e : Entry). SoundEntry s e → AllSmall (answersFor e))
+      (λ p x f. ((λ block. lit≤ tt, tt), tt))
+      (λ b y f.
       let v = verdictOf (b .station) (b .days) y in
-      let sound = f .kept .sound in
-      let small = figure-small (b .station) (b .days) y sound in (
-        (λ code. line-most code (b .station) (b .days) y sound (f .offset + 1, f .read), small),
-        crops-small (b .crop) y v (f .kept .faultless) small,
-      )
+      let m = moderate s (day b y) (f .kept) in (
+        (λ code. line-most code (b .station) (b .days) y (f .kept .sound) (f .offset + 1, f .read), m .0),
+        beside-small (cropAnswers (b .crop) y v) (one-most (b .crop) y v .beside) (m .1),
+      ))
+      (λ e quiet f. beside-small (answersFor e) (quiet .beside) (moderate s e (f .kept)))
 
   entries-small : (es : List Entry) → SoundEntries s es → AllSmall (answersOf es)
   entries-small [] f = tt
   entries-small (e ∷ es) f = both-small (answersFor e) (answersOf es) (entry-small e (f .0)) (entries-small es (f .1))
-
-  end-small : (p : Past) → AllSmall (answersAtEnd p)
-  end-small p = tt
 
   pub all-small : AllSmall (answersTo s)
   all-small = by (readingOf s) (sound-reading s)
@@ -140,46 +122,5 @@ module _ (s : List ℕ) (bytes : AreBytes s) where
       by : (r : Reading) → SoundEntries s (entriesOf r) → AllSmall (answersIn r)
       by (refused k at) f = tt
       by (accepted es) f =
-          both-small (answersOf es) (answersAtEnd (pastAll unopened es)) (entries-small es f) (end-small (pastAll unopened es))
-
--- ---- how many there are
-
-module _ (rest : List Answer) where
-  abbrev Counts : List Answer → Type 0
-  Counts l = (daysIn (l ++ rest) ≡ daysIn rest) × (weight (l ++ rest) ≡ 13 * length l + weight rest)
-
-  crop-counts : (c : Crop) (y : Day) (n : ℕ) → Counts (cropAnswer c y n)
-  crop-counts c y n = by-cond Counts (inSeason c (y .year) (y .d)) (λ e. (refl, refl)) (λ e. (refl, omega arith))
-
-  crops-count : (pl : Planted) (y : Day) (v : Verdict) → Counts (cropAnswers pl y v)
-  crops-count bare y v = (refl, omega arith)
-  crops-count (planted c) y (Refused r) = (refl, omega arith)
-  crops-count (planted c) y (Figure n) = crop-counts c y n
-  crops-count (planted c) y (Estimated n) = crop-counts c y n
-
-  -- of one record, before the rest
-  entry-counts : (e : Entry) → (daysIn (answersFor e ++ rest) ≡ tally e .days + daysIn rest)
-      × (weight (answersFor e ++ rest) ≡ 45 * tally e .days + 13 * tally e .figures + 25 * tally e .stations + weight rest)
-  entry-counts (station p x) = (omega arith, omega arith)
-  entry-counts (crop b c) = (omega arith, omega arith)
-  entry-counts (day b y) =
-      let crops = crops-count (b .crop) y (verdictOf (b .station) (b .days) y) in
-      (omega (arith, crops .0), omega (arith, crops .1))
-
--- of all records, before those at the end
-entries-count : (es : List Entry) (p : Past) → let l = answersOf es ++ answersAtEnd p in
-    (daysIn l ≡ daysOf es) × (weight l ≡ 45 * daysOf es + 13 * figuresOf es + 25 * stationsOf es)
-entries-count [] p = (refl, refl)
-entries-count (e ∷ es) p =
-    let one = entry-counts (answersOf es ++ answersAtEnd p) e in
-    let more = entries-count es p in
-    rw append-assoc (omega (arith, one .0, more .0), omega (arith, one .1, more .1))
-
-pub all-counts : (s : List ℕ) → let es = entriesOf (readingOf s) in
-    (daysIn (answersTo s) ≡ daysOf es) × (weight (answersTo s) ≡ 45 * daysOf es + 13 * figuresOf es + 25 * stationsOf es)
-all-counts s = by (readingOf s)
-  where
-    by : (r : Reading) → (daysIn (answersIn r) ≡ daysOf (entriesOf r))
-        × (weight (answersIn r) ≡ 45 * daysOf (entriesOf r) + 13 * figuresOf (entriesOf r) + 25 * stationsOf (entriesOf r))
-    by (refused k at) = (refl, refl)
-    by (accepted es) = entries-count es (pastAll unopened es)
+          let p = pastAll unopened es in
+          both-small (answersOf es) (answersAtEnd p) (entries-small es f) (beside-small (answersAtEnd p) (end-beside p) (end-moderate p))

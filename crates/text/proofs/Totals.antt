@@ -1,17 +1,17 @@
 -- What is owed of a report's totals is met by every log (`totals-owed`). Assumes nothing.
-use mathlib.Core.Path.{_≡_, refl, sym, ap, _∙_, subst, subst₂}
+use mathlib.Core.Path.{_≡_, sym, ap, _∙_, subst, subst₂}
 use mathlib.Core.Bool.{Bool, true, cond}
 use mathlib.Core.List.{List, [], _∷_, _++_, append-assoc}
 use mathlib.Core.Logic.{_⊎_, ⊎-elim}
 use Prim.Native.Nat.{ℕ}
+use Rattle.answers.specs.Answers.{roleOf}
 use Rattle.answers.specs.declared.Answer.{Answer}
 use Rattle.answers.specs.declared.Answer.the-variants as answer
 use Rattle.day.specs.Calendar.{isDate}
 use Rattle.day.specs.declared.Code.{Code}
 use Rattle.day.specs.declared.Verdict.{Verdict}
-use Rattle.day.specs.declared.Verdict.the-variants.{Figure, Refused, Estimated}
+use Rattle.day.specs.declared.Verdict.the-variants.{Figure, Estimated}
 use Rattle.log.specs.DateOrder.{InDateOrder}
-use Rattle.log.specs.History.{dayNumber}
 use Rattle.log.specs.Log.{answersTo}
 use Rattle.log.proofs.DateOrder.{in-date-order}
 use Rattle.totals.specs.Months.{monthOf}
@@ -20,10 +20,11 @@ use Rattle.totals.specs.Totals.{none, one, countedOf, shareOf, isMonth}
 use Rattle.totals.specs.declared.tally.Counted.the-variants.{Day}
 use Rattle.totals.proofs.Calendar.{in-one-month}
 use Rattle.totals.proofs.Shares.{season-is-months, same-month, other-month}
-use Rattle.text.specs.Report.{answerLines, aboutBlock, own, linesOf}
+use Rattle.text.specs.Report.{answerLines, aboutBlock, own, blockLines, linesOf}
 use Rattle.text.specs.Totals.{BlockOf, AnsweredIn, CountsOnce, TotalsOwed}
 use Rattle.text.specs.Walk.{Ordered}
-use Rattle.text.proofs.DateOrder.{answers-ordered, date-listed}
+use Rattle.text.proofs.Blocks.{own-front}
+use Rattle.text.proofs.DateOrder.{answers-ordered, date-listed, rest-in-order}
 
 -- ---- where a block's totals stand
 
@@ -31,25 +32,16 @@ abbrev Behind : List ℕ → Code → List Answer → Type 0
 Behind lines code answers = (front back : List ℕ) × (lines ≡ front ++ (answerLines code answers ++ (aboutBlock code answers ++ back)))
 
 behind : (before rest : List Answer) (code : Code) → Behind (linesOf (before ++ answer.Station code ∷ rest)) code (own rest)
-behind [] rest code = ([], linesOf rest, refl)
-behind (answer.Station c ∷ before) rest code =
+behind [] rest code = ([], linesOf rest, append-assoc (answerLines code (own rest)) (aboutBlock code (own rest)) (linesOf rest))
+behind (a ∷ before) rest code =
     let later = behind before rest code in
-    let mine = own (before ++ answer.Station code ∷ rest) in
-    let first = answerLines c mine ++ aboutBlock c mine in
-    let block = answerLines code (own rest) ++ (aboutBlock code (own rest) ++ later .1) in (
-      first ++ later .0,
-      later .1,
-      ap (λ (l : List ℕ). answerLines c mine ++ (aboutBlock c mine ++ l)) (later .2)
-          ∙ sym (append-assoc (answerLines c mine) (aboutBlock c mine) (later .0 ++ block)) ∙ sym (append-assoc first (later .0) block),
-    )
-behind (answer.Day year d v ∷ before) rest code = behind before rest code
-behind (answer.Crop c n ∷ before) rest code = behind before rest code
+    let first = blockLines (roleOf a) (before ++ answer.Station code ∷ rest) in
+    let block = answerLines code (own rest) ++ (aboutBlock code (own rest) ++ later .1) in
+    (first ++ later .0, later .1, ap (λ (l : List ℕ). first ++ l) (later .2) ∙ sym (append-assoc first (later .0) block))
 
 block-ordered : (before rest : List Answer) (code : Code) → Ordered (before ++ answer.Station code ∷ rest) → InMonthOrder 0 (own rest)
 block-ordered [] rest code h = h .0
-block-ordered (answer.Station c ∷ before) rest code h = block-ordered before rest code (h .1)
-block-ordered (answer.Day year d v ∷ before) rest code h = block-ordered before rest code h
-block-ordered (answer.Crop c n ∷ before) rest code h = block-ordered before rest code h
+block-ordered (a ∷ before) rest code h = block-ordered before rest code (h .1)
 
 -- ---- an answered day
 
@@ -66,11 +58,7 @@ module _ (year d : ℕ) (v : Verdict) (n : ℕ) (kind : (v ≡ Figure n) ⊎ (v 
 
   dated : (last : ℕ) (before rest : List Answer) → InDateOrder last (before ++ answer.Day year d v ∷ rest) → isDate year d ≡ true
   dated last [] rest h = first-dated last rest h
-  dated last (answer.Station c ∷ before) rest h = dated 0 before rest h
-  dated last (answer.Day y e (Figure m) ∷ before) rest h = dated (dayNumber y e) before rest (h .1)
-  dated last (answer.Day y e (Refused r) ∷ before) rest h = dated last before rest h
-  dated last (answer.Day y e (Estimated m) ∷ before) rest h = dated (dayNumber y e) before rest (h .1)
-  dated last (answer.Crop c m ∷ before) rest h = dated last before rest h
+  dated last (a ∷ before) rest h = let later = rest-in-order last a (before ++ answer.Day year d v ∷ rest) h in dated (later .0) before rest (later .1)
 
   counts-once : isDate year d ≡ true → CountsOnce year d v n
   counts-once date =
@@ -83,13 +71,6 @@ module _ (year d : ℕ) (v : Verdict) (n : ℕ) (kind : (v ≡ Figure n) ⊎ (v 
         its-own = ap (shareOf (isMonth year month)) counted ∙ ap (λ (b : Bool). cond b (one n) none) (same-month year month);
         no-other = λ y m other. ap (shareOf (isMonth y m)) counted ∙ ap (λ (b : Bool). cond b (one n) none) (other-month y m year month other);
       }
-
--- a block's own answers are the first of those behind its station
-own-front : (l : List Answer) → (beyond : List Answer) × (l ≡ own l ++ beyond)
-own-front [] = ([], refl)
-own-front (answer.Station code ∷ l) = (answer.Station code ∷ l, refl)
-own-front (answer.Day year d v ∷ l) = let more = own-front l in (more .0, ap (λ (r : List Answer). answer.Day year d v ∷ r) (more .1))
-own-front (answer.Crop code n ∷ l) = let more = own-front l in (more .0, ap (λ (r : List Answer). answer.Crop code n ∷ r) (more .1))
 
 module _ {s : List ℕ} {code : Code} {answers : List Answer} (b : BlockOf s code answers) {year d : ℕ} {v : Verdict} {n : ℕ} (a : AnsweredIn answers year d v n) where
   abbrev beyond : List Answer

@@ -2,14 +2,13 @@
 -- (`one-walked`), the room that there is for its line (`line-room`), and the end (`end-room`, `all-walked`). Assumes nothing.
 use mathlib.Core.Path.{_≡_, sym, subst}
 use mathlib.Core.Bool.{Bool, true}
-use mathlib.Core.List.{List, [], _∷_}
+use mathlib.Core.List.{List, []}
 use Prim.Native.Nat.{ℕ, _+_, _≤_, _<_}
 use lib.ListN.{length}
-use Rattle.answers.specs.Answers.{answerBytes}
+use Rattle.answers.specs.Answers.{roleOf, answerBytes}
 use Rattle.answers.specs.ReadBack.{StandsAt}
 use Rattle.answers.specs.declared.Answer.{Answer}
-use Rattle.answers.specs.declared.Answer.the-variants as answer
-use Rattle.text.specs.Report.{linesOf}
+use Rattle.text.specs.Report.{own, linesOf}
 use Rattle.text.specs.Walk.{Holds, Ordered, Room, Laid, Stands, openAfter, seenAfter, aboutOpen, printed, linesFrom}
 use Rattle.text.specs.declared.walk.Open.{Open}
 use Rattle.text.specs.declared.walk.Open.the-variants.{NoBlock}
@@ -19,13 +18,8 @@ use Rattle.text.proofs.Going.{Going, none-gone, stands-as, room, one-mo
 pub record Walked (s : List ℕ) (n : ℕ) (writes : Bool) (before : List ℕ) (start : ℕ) (text : List ℕ) (at to : ℕ) (block : Open) (all : List Answer) : Type 0 where
   pub seen : List Answer
   pub going : Going s n writes before start text at to (linesFrom block seen) (linesOf all)
-  pub in-block : InBlock s at block seen (going .left)
+  pub in-block : InBlock s at block seen (own (going .left))
   pub ordered : Ordered (going .left)
-
-still-ordered : (a : Answer) (l : List Answer) → Ordered (a ∷ l) → Ordered l
-still-ordered (answer.Station code) l h = h .1
-still-ordered (answer.Day year d verdict) l h = h
-still-ordered (answer.Crop code n) l h = h
 
 module _ {s : List ℕ} {n : ℕ} {writes : Bool} {before : List ℕ} {start : ℕ} {all : List Answer} where
   pub none-walked : Holds s 0 n all → Ordered all → Walked s n writes before start before 0 start NoBlock all
@@ -34,28 +28,34 @@ module _ {s : List ℕ} {n : ℕ} {writes : Bool} {before : List ℕ} {start : �
 
   module _ {text : List ℕ} {at to : ℕ} {block : Open} (w : Walked s n writes before start text at to block all) where
     pub stands : Stands s at block (w .seen)
-    stands = block-stands s at block (w .seen) (w .going .left) (w .in-block)
+    stands = block-stands s at block (w .seen) (own (w .going .left)) (w .in-block)
 
     module _ (h : at < n) {r : Answer} (is : (b : Answer) → StandsAt s at b → r ≡ b) where
       abbrev next : ℕ
       next = at + length (answerBytes r)
 
-      pub line-room : (buffer : List ℕ) → Room writes buffer start (linesOf all) → Room writes buffer to (printed block (w .seen) r)
-      line-room =
-          room (w .going) h is (printed block (w .seen) r) (linesFrom (openAfter block r next) (seenAfter (w .seen) r)) (prints block (w .seen) r next)
+      -- what it prints, and what those behind it print
+      abbrev line : List ℕ
+      line = printed block (w .seen) (roleOf r) r
 
-      pub one-walked : {after : List ℕ} {end : ℕ} → (writes ≡ true → to ≤ length before) → Laid writes text to (printed block (w .seen) r) after end
-          → Walked s n writes before start after next end (openAfter block r next) all
+      abbrev onward : List Answer → List ℕ
+      onward = linesFrom (openAfter block (roleOf r) next) (seenAfter (w .seen) (roleOf r) r)
+
+      pub line-room : (buffer : List ℕ) → Room writes buffer start (linesOf all) → Room writes buffer to line
+      line-room = room (w .going) h is line onward (prints block (w .seen) r next)
+
+      pub one-walked : {after : List ℕ} {end : ℕ} → (writes ≡ true → to ≤ length before) → Laid writes text to line after end
+          → Walked s n writes before start after next end (openAfter block (roleOf r) next) all
       one-walked fits laid =
-          let more = one-more (w .going) h is (printed block (w .seen) r) (linesFrom (openAfter block r next) (seenAfter (w .seen) r)) (prints block (w .seen) r next) fits laid in
+          let more = one-more (w .going) h is line onward (prints block (w .seen) r next) fits laid in
           let ordered = subst Ordered (more .1) (w .ordered) in
           record {
-            seen = seenAfter (w .seen) r;
+            seen = seenAfter (w .seen) (roleOf r) r;
             going = more .0;
             in-block =
-                next-in-block s at block (w .seen) r (more .0 .left) (stands-as (w .going) h is) ordered
-                (subst (InBlock s at block (w .seen)) (more .1) (w .in-block));
-            ordered = still-ordered r (more .0 .left) ordered;
+                next-in-block s at (w .seen) r (stands-as (w .going) h is) block (more .0 .left) (ordered .0)
+                (subst (λ (l : List Answer). InBlock s at block (w .seen) (own l)) (more .1) (w .in-block));
+            ordered = ordered .1;
           }
 
     -- behind the last answer

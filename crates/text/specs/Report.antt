@@ -6,7 +6,7 @@ use mathlib.Core.Path.{_≡_}
 use Prim.Native.Nat.{ℕ, _≤_, _<_}
 use lib.Dec.{ltb, eqb}
 use lib.ListN.{length, drop, getD}
-use Rattle.answers.specs.Answers.{bytesOf}
+use Rattle.answers.specs.Answers.{Role, opens, ofDay, beside, roleOf, bytesOf}
 use Rattle.day.specs.declared.Code.{Code}
 use Rattle.log.specs.Log.{longest, outcomeOf, answersTo}
 use Rattle.answers.specs.declared.Answer.{Answer}
@@ -43,19 +43,27 @@ seasonText block total = seasonLine block (total .days) (total .sum)
 abbrev pub aboutBlock : Code → List Answer → List ℕ
 aboutBlock block answers = eachMonth (monthText block) (monthTotal answers) months ++ seasonText block (seasonTotal answers)
 
+-- by what an answer is to its block: a station's ends the block before it, any other is the block's, and `later` are those behind it
+abbrev pub ownFrom : Role → Answer → List Answer → List Answer
+ownFrom (opens code) a later = []
+ownFrom (ofDay year d verdict) a later = a ∷ later
+ownFrom beside a later = a ∷ later
+
 -- the answers of the block that is open: those before the next station
 abbrev pub own : List Answer → List Answer
 own [] = []
-own (answer.Station code ∷ rest) = []
-own (answer.Day year d verdict ∷ rest) = answer.Day year d verdict ∷ own rest
-own (answer.Crop code n ∷ rest) = answer.Crop code n ∷ own rest
+own (a ∷ rest) = ownFrom (roleOf a) a (own rest)
+
+-- the lines of the block that an answer opens: those of its own answers, and those about it
+abbrev pub blockLines : Role → List Answer → List ℕ
+blockLines (opens code) rest = answerLines code (own rest) ++ aboutBlock code (own rest)
+blockLines (ofDay year d verdict) rest = []
+blockLines beside rest = []
 
 -- block after block. No log answers a day before a station: it is refused with 4 (`station-first` in log/proofs/Longest.antt).
 abbrev pub linesOf : List Answer → List ℕ
 linesOf [] = []
-linesOf (answer.Station code ∷ rest) = answerLines code (own rest) ++ (aboutBlock code (own rest) ++ linesOf rest)
-linesOf (answer.Day year d verdict ∷ rest) = linesOf rest
-linesOf (answer.Crop code n ∷ rest) = linesOf rest
+linesOf (a ∷ rest) = blockLines (roleOf a) rest ++ linesOf rest
 
 -- "a log of 0 bytes prints the header alone"; a refused log prints its line and nothing else
 abbrev pub textOf : Outcome → List Answer → List ℕ

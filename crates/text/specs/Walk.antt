@@ -4,10 +4,9 @@ use mathlib.Core.List.{List, [], _∷_, _++_}
 use mathlib.Core.Path.{_≡_}
 use Prim.Native.Nat.{ℕ, _+_, _≤_}
 use lib.ListN.{length, drop}
-use Rattle.answers.specs.Answers.{bytesOf}
+use Rattle.answers.specs.Answers.{Role, opens, ofDay, beside, roleOf, bytesOf}
 use Rattle.answers.specs.Overwriting.{laidIf}
 use Rattle.answers.specs.declared.Answer.{Answer}
-use Rattle.answers.specs.declared.Answer.the-variants as answer
 use Rattle.text.specs.Report.{lineOf, answerLines, aboutBlock, own, linesOf}
 use Rattle.totals.specs.Tally.{InMonthOrder}
 use Rattle.text.specs.declared.walk.Open.{Open}
@@ -19,12 +18,15 @@ pub record Holds (s : List ℕ) (from n : ℕ) (answers : List Answer) : Type 0 
   pub rest : List ℕ
   pub bytes : drop from s ≡ bytesOf answers ++ rest
 
--- the months of each block's answers are in date order
+-- the months of the block that an answer opens, and of each block, are in date order
+abbrev pub BlockOrdered : Role → List Answer → Type 0
+BlockOrdered (opens code) rest = InMonthOrder 0 (own rest)
+BlockOrdered (ofDay year d verdict) rest = Unit {0}
+BlockOrdered beside rest = Unit {0}
+
 abbrev pub Ordered : List Answer → Type 0
 Ordered [] = Unit {0}
-Ordered (answer.Station code ∷ rest) = InMonthOrder 0 (own rest) × Ordered rest
-Ordered (answer.Day year d verdict ∷ rest) = Ordered rest
-Ordered (answer.Crop code n ∷ rest) = Ordered rest
+Ordered (a ∷ rest) = BlockOrdered (roleOf a) rest × Ordered rest
 
 -- the header, and the most bytes that the lines of a log's answers can have (proofs/LongEnough.antt)
 abbrev pub longestReport : ℕ
@@ -46,31 +48,36 @@ abbrev pub Stands : List ℕ → ℕ → Open → List Answer → Type 0
 Stands s at NoBlock seen = Unit {0}
 Stands s at (In b) seen = Holds s (b .from) at seen × InMonthOrder 0 seen
 
--- the block that is open after an answer, whose bytes end at an index, and what it has had
-abbrev pub openAfter : Open → Answer → ℕ → Open
-openAfter block (answer.Station code) next = In (record { code = code; from = next })
-openAfter block (answer.Day year d verdict) next = block
-openAfter block (answer.Crop code n) next = block
+-- By what an answer is to its block: the block that is open behind it, where its bytes end at the index `next`, and what that block has had.
+abbrev pub openAfter : Open → Role → ℕ → Open
+openAfter block (opens code) next = In (record { code = code; from = next })
+openAfter block (ofDay year d verdict) next = block
+openAfter block beside next = block
 
-abbrev pub seenAfter : List Answer → Answer → List Answer
-seenAfter seen (answer.Station code) = []
-seenAfter seen (answer.Day year d verdict) = seen ++ answer.Day year d verdict ∷ []
-seenAfter seen (answer.Crop code n) = seen ++ answer.Crop code n ∷ []
+abbrev pub seenAfter : List Answer → Role → Answer → List Answer
+seenAfter seen (opens code) a = []
+seenAfter seen (ofDay year d verdict) a = seen ++ a ∷ []
+seenAfter seen beside a = seen ++ a ∷ []
 
--- what is printed where a block ends
+-- what is printed where a block ends, and of an answer in it
 abbrev pub aboutOpen : Open → List Answer → List ℕ
 aboutOpen NoBlock seen = []
 aboutOpen (In b) seen = aboutBlock (b .code) seen
 
--- what an answer prints: where a station stands, the block before it has ended
-abbrev pub printed : Open → List Answer → Answer → List ℕ
-printed block seen (answer.Station code) = aboutOpen block seen
-printed NoBlock seen (answer.Day year d verdict) = []
-printed NoBlock seen (answer.Crop code n) = []
-printed (In b) seen (answer.Day year d verdict) = lineOf (b .code) (answer.Day year d verdict)
-printed (In b) seen (answer.Crop code n) = lineOf (b .code) (answer.Crop code n)
+abbrev pub lineIn : Open → Answer → List ℕ
+lineIn NoBlock a = []
+lineIn (In b) a = lineOf (b .code) a
 
--- what all the answers from there on print
+-- what an answer prints: where a station stands, the block before it has ended
+abbrev pub printed : Open → List Answer → Role → Answer → List ℕ
+printed block seen (opens code) a = aboutOpen block seen
+printed block seen (ofDay year d verdict) a = lineIn block a
+printed block seen beside a = lineIn block a
+
+-- what the block that is open has yet to print, with its answers `more`; and what all the answers from there on print
+abbrev pub openLines : Open → List Answer → List Answer → List ℕ
+openLines NoBlock seen more = []
+openLines (In b) seen more = answerLines (b .code) more ++ aboutBlock (b .code) (seen ++ more)
+
 abbrev pub linesFrom : Open → List Answer → List Answer → List ℕ
-linesFrom NoBlock seen left = linesOf left
-linesFrom (In b) seen left = answerLines (b .code) (own left) ++ (aboutBlock (b .code) (seen ++ own left) ++ linesOf left)
+linesFrom block seen left = openLines block seen (own left) ++ linesOf left

@@ -3,6 +3,7 @@ ghost use mathlib.Core.List.{List};
 ghost use mathlib.Core.Path.{_≡_};
 ghost use Prim.Native.Nat.{_≤_};
 ghost use Rattle.log.specs.Log.{longestAnswers};
+ghost use Rattle.answers.specs.Answers.{roleOf};
 ghost use Rattle.answers.specs.declared.Answer.{Answer as Answered};
 ghost use Rattle.text.specs.Report.{linesOf};
 ghost use Rattle.lines.specs.Text.{dayLine, cropLine};
@@ -92,8 +93,8 @@ fn put_line(
     writes: bool,
 ) -> usize
     requires { ⌜ at ≤ longestAnswers ⌝ }
-    requires { ⌜ ((seen : List Answered) × Stands (now answers) at block seen × Room writes (now text) to (printed block seen a)) ⌝ }
-    ensures { λ r. ⌜ ((seen : List Answered) → Stands (now (answers .entry)) at block seen → Laid writes (now (text .entry)) to (printed block seen a) (now (text .exit)) r) ⌝ }
+    requires { ⌜ ((seen : List Answered) × Stands (now answers) at block seen × Room writes (now text) to (printed block seen (roleOf a) a)) ⌝ }
+    ensures { λ r. ⌜ ((seen : List Answered) → Stands (now (answers .entry)) at block seen → Laid writes (now (text .entry)) to (printed block seen (roleOf a) a) (now (text .exit)) r) ⌝ }
 {
     match a {
         Answer::Station(_) => put_about(answers, at, text, to, block, writes),
@@ -110,7 +111,7 @@ fn put_line(
 
 // The block that is open after an answer that ends at `next`.
 fn open_after(block: Open, a: Answer, next: usize) -> Open
-    ensures { λ r. ⌜ r ≡ openAfter block a next ⌝ }
+    ensures { λ r. ⌜ r ≡ openAfter block (roleOf a) next ⌝ }
 {
     match a {
         Answer::Station(code) => Open::In(Block { code, from: next }),

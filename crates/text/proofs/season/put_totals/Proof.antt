@@ -9,13 +9,14 @@ use denote.Ref.{now}
 use borrow.Author.Needs.{needs}
 use Rattle.answers.specs.Answers.{answerBytes}
 use Rattle.answers.specs.declared.Answer.{Answer}
+use Rattle.answers.proofs.Roles.{some-bytes}
 use Rattle.log.specs.Log.{longestAnswers}
 use Rattle.totals.specs.Tally.{begun, after, ended, Within}
 use Rattle.totals.specs.declared.tally.Counted.{Counted}
 use Rattle.totals.specs.declared.tally.Tally.{Tally}
 use Rattle.text.specs.Report.{monthText, seasonText}
 use Rattle.text.specs.Walk.{Holds, Room, Laid}
-use Rattle.text.proofs.Going.{some-bytes, Going, none-gone, stands-there, inside, room, one-more, room-last, all-laid}
+use Rattle.text.proofs.Going.{Going, none-gone, stands-there, inside, room, one-more, room-last, all-laid}
 use Rattle.text.proofs.InTurn.{told, about-in-turn}
 use Rattle.text.proofs.Laid.{then-laid}
 use Rattle.text.proofs.season.put_totals.Statement.{statement}

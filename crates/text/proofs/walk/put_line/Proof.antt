@@ -4,6 +4,7 @@ use mathlib.Core.Path.{sym, subst, subst₂}
 use Prim.Native.Nat.{ℕ}
 use borrow.Author.Needs.{needs}
 use denote.Ref.{now}
+use Rattle.answers.specs.Answers.{roleOf}
 use Rattle.answers.specs.declared.Answer.{Answer}
 use Rattle.text.specs.Walk.{Room, Laid, Stands, printed}
 use Rattle.text.specs.declared.walk.Open.{Open}
@@ -16,12 +17,12 @@ module _ (s : tie.Start) where
   abbrev Asked : Open → Answer → Type 0
   Asked block a =
       let x = s .args in
-      (seen : List Answer) × Stands (now (x .answers)) (x .at) block seen × Room (x .writes) (now (x .text)) (x .to) (printed block seen a)
+      (seen : List Answer) × Stands (now (x .answers)) (x .at) block seen × Room (x .writes) (now (x .text)) (x .to) (printed block seen (roleOf a) a)
 
   abbrev Given : List ℕ → ℕ → Open → Answer → Type 0
   Given after next block a =
       let x = s .args in
-      (seen : List Answer) → Stands (now (x .answers)) (x .at) block seen → Laid (x .writes) (now (x .text)) (x .to) (printed block seen a) after next
+      (seen : List Answer) → Stands (now (x .answers)) (x .at) block seen → Laid (x .writes) (now (x .text)) (x .to) (printed block seen (roleOf a) a) after next
 
 put-about-requires : tie.Need-put-about-requires
 put-about-requires c κs =

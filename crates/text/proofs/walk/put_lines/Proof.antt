@@ -7,10 +7,11 @@ use native.Mathlib.Omega.{arith}
 use lib.ListN.{length}
 use denote.Ref.{now}
 use borrow.Author.Needs.{needs}
-use Rattle.answers.specs.Answers.{answerBytes}
+use Rattle.answers.specs.Answers.{roleOf, answerBytes}
 use Rattle.answers.specs.declared.Answer.{Answer}
+use Rattle.answers.proofs.Roles.{some-bytes}
 use Rattle.text.specs.Walk.{Holds, Ordered, Room, Stands, aboutOpen, printed}
-use Rattle.text.proofs.Going.{some-bytes, stands-there, inside}
+use Rattle.text.proofs.Going.{stands-there, inside}
 use Rattle.text.proofs.Walked.{Walked, none-walked, stands, line-room, one-walked, end-room, all-walked}
 use Rattle.text.proofs.walk.put_lines.Statement.{statement}
 use Rattle.text.proofs.walk.put_lines.Tie as tie
@@ -44,7 +45,7 @@ module _ (c : tie.After-answer-at Inv-loop μ-loop) where
   abbrev answer : Answer
   answer = c .answer-at .result
 
-  room-there : Room (s l .args .writes) (l .loop .text) (l .loop .to) (printed (l .loop .block) (given l .seen) answer)
+  room-there : Room (s l .args .writes) (l .loop .text) (l .loop .to) (printed (l .loop .block) (given l .seen) (roleOf answer) answer)
   room-there =
       let fits = line-room (given l) (c .before .loop-test .taken) (c .answer-at .ensures) (now (s l .args .text)) (s l .pre .1 .3) in
       (fits .0, λ w. omega (arith, l .loop .inv .0, fits .1 w))
