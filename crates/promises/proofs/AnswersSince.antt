@@ -68,7 +68,7 @@ pub answers-stay : (e : Entry) → Stays e → answersFor e ≡ answersStrictly 
 answers-stay =
     entry-cases (λ (e : Entry). Stays e → answersFor e ≡ answersStrictly e) (λ p x stays. refl)
     (λ b y stays. ap (dayAnswers b y) (verdict-stays (b .station) (b .days) y (stays b y refl)))
-    (λ e quiet stays. sym (ap (byDay dayStrictly (answersFor e)) (quiet .no-day)))
+    (λ e other stays. sym (ap (byDay dayStrictly (answersFor e)) (other .no-day)))
 
 pub substituted : (b : BlockRead) (y : Day) → goodDate (b .days) y ≡ true → lacksDewPoint y ≡ true
     → let v = estimated (judgedStrictly (b .station) (withMinimum y) (earlierMeans (b .days) y)) in answersFor (day b y) ≡ dayAnswers b y v
@@ -94,8 +94,8 @@ one-longer : (e : Entry) → length (bytesOf (answersFor e)) ≡ length (bytesOf
 one-longer =
     entry-cases (λ (e : Entry). length (bytesOf (answersFor e)) ≡ length (bytesOf (answersStrictly e)) + 9 * byDay addedAt 0 (dayIn e)) (λ p x. refl)
     (λ b y. longer b y (lacksDewPoint y) refl)
-    (λ e quiet.
-    omega (arith, ap (λ (d : DayIn). length (bytesOf (byDay dayStrictly (answersFor e) d))) (quiet .no-day), ap (byDay addedAt 0) (quiet .no-day)))
+    (λ e other.
+    omega (arith, ap (λ (d : DayIn). length (bytesOf (byDay dayStrictly (answersFor e) d))) (other .no-day), ap (byDay addedAt 0) (other .no-day)))
 
 pub all-longer : (es : List Entry) → length (bytesOf (answersOf es)) ≡ length (bytesOf (ofRecords es)) + 9 * addedTo es
 all-longer [] = refl

@@ -17,7 +17,6 @@ use Rattle.day.specs.declared.Verdict.{Verdict}
 use Rattle.day.proofs.DayBound.{judged-within-bound, judged-within-proved}
 use Rattle.day.proofs.Marks.{either-way}
 use Rattle.answers.specs.Answers.{valueOf, dayAnswer, answerBytes}
-use Rattle.answers.specs.declared.Answer.{Answer}
 use Rattle.answers.specs.declared.Answer.the-variants as answer
 use Rattle.promises.specs.CropFigures.{CropDay, CropFigureAt, CropFiguresOwed, EveryCropFigure}
 use Rattle.promises.specs.Demand.{AnsweredLog, FiguresOwed}

@@ -61,9 +61,9 @@ needs-more es =
     omega (arith, all-longer es, bytes-longer (answersOf es) end, bytes-longer (ofRecords es) end)
 
 -- all that was answered, about one record
-about-record : (before later : List Entry) (e : Entry)
+answers-about : (before later : List Entry) (e : Entry)
     → allStrictly (before ++ (e ∷ later)) ≡ ofRecords before ++ (answersStrictly e ++ (ofRecords later ++ answersAtEnd (pastAll unopened (before ++ (e ∷ later)))))
-about-record before later e =
+answers-about before later e =
     ap (λ (l : List Answer). l ++ answersAtEnd (pastAll unopened (before ++ (e ∷ later)))) (two-lists before (e ∷ later)) ∙ simp append-assoc
   where
     two-lists : (es fs : List Entry) → ofRecords (es ++ fs) ≡ ofRecords es ++ ofRecords fs
@@ -140,7 +140,7 @@ module _ (s : List ℕ) where
         (ap (λ (o : Outcome). leaves o (bytesOf (allStrictly (entriesOf (readingOf s)))) buffer) told
         ∙ ap (λ (r : Reading). bytesOf (allStrictly (entriesOf r)) ++ drop m buffer) stands
         ∙ ap (λ (l : List ℕ). l ++ drop m buffer)
-        (ap bytesOf (about-record before later e) ∙ bytes-append (ofRecords before) (own ++ back)
+        (ap bytesOf (answers-about before later e) ∙ bytes-append (ofRecords before) (own ++ back)
         ∙ ap (λ (l : List ℕ). bytesOf (ofRecords before) ++ l) (bytes-append own back))
         ∙ simp append-assoc)
         ∙ part-at (bytesOf (ofRecords before)) (bytesOf own) (bytesOf back ++ drop m buffer) refl refl

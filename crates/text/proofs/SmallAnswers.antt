@@ -110,7 +110,7 @@ module _ (s : List ℕ) (bytes : AreBytes s) where
         (λ code. line-most code (b .station) (b .days) y (f .kept .sound) (f .offset + 1, f .read), m .0),
         beside-small (cropAnswers (b .crop) y v) (one-most (b .crop) y v .beside) (m .1),
       ))
-      (λ e quiet f. beside-small (answersFor e) (quiet .beside) (moderate s e (f .kept)))
+      (λ e other f. beside-small (answersFor e) (other .beside) (moderate s e (f .kept)))
 
   entries-small : (es : List Entry) → SoundEntries s es → AllSmall (answersOf es)
   entries-small [] f = tt
