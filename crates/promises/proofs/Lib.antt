@@ -9,6 +9,7 @@ pub mod WorkedLog
 pub mod WorkedCrop
 pub mod WorkedLimit
 pub mod WorkedEstimate
+pub mod LogEdges
 pub mod TwoParts
 pub mod WithoutKind
 pub mod FirstStation
