@@ -19,11 +19,11 @@ use Rattle.day.proofs.Marks.{either-way}
 use Rattle.answers.specs.Answers.{valueOf, dayAnswer, answerBytes}
 use Rattle.answers.specs.declared.Answer.the-variants as answer
 use Rattle.promises.specs.CropFigures.{CropDay, CropFigureAt, CropFiguresOwed, EveryCropFigure}
-use Rattle.promises.specs.Demand.{AnsweredLog, FiguresOwed}
+use Rattle.promises.specs.Demand.{AnsweredLog, NotRefused, FiguresOwed}
 use Rattle.log.specs.Log.{Planted, planted, cropAnswer, cropAnswers, bufferAfter, Read}
 use Rattle.log.specs.declared.Outcome.{Outcome}
 use Rattle.promises.proofs.Days.{answer-at, crop-answer-at}
-use Rattle.promises.proofs.Demand.{marked-bytes, answered, log-within-bound}
+use Rattle.promises.proofs.Demand.{marked-bytes, answered, not-refused, log-within-bound}
 use Rattle.log.proofs.SoundStation.{station-constants}
 use Rattle.promises.proofs.Stations.{station-sound, crop-faultless}
 
@@ -84,12 +84,15 @@ crop-figures-met s buffer log i place st x earlier c d = crop-figure-at d buffer
 
 -- a reader that leaves what is owed for the log leaves the figures that are owed, the days' and the crops'
 pub with-figures : {s buffer after : List ℕ} {o : Outcome} → Read s buffer o after
-    → Read s buffer o after × (FiguresOwed s buffer after × CropFiguresOwed s buffer after)
+    → Read s buffer o after × (NotRefused s buffer o × (FiguresOwed s buffer after × CropFiguresOwed s buffer after))
 unfolding EveryCropFigure
 with-figures {s} {buffer} h = (
   h,
   (
-    subst (FiguresOwed s buffer) (sym (h .written)) (log-within-bound s buffer),
-    subst (CropFiguresOwed s buffer) (sym (h .written)) (crop-figures-met s buffer),
+    subst (NotRefused s buffer) (sym (h .outcome)) (not-refused s buffer),
+    (
+      subst (FiguresOwed s buffer) (sym (h .written)) (log-within-bound s buffer),
+      subst (CropFiguresOwed s buffer) (sym (h .written)) (crop-figures-met s buffer),
+    ),
   ),
 )

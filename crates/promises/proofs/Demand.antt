@@ -14,8 +14,9 @@ use Rattle.day.specs.declared.Verdict.{Verdict}
 use Rattle.day.proofs.DayBound.{judged-within-bound}
 use Rattle.day.proofs.Marks.{either-way}
 use Rattle.answers.specs.Answers.{kindOf, valueOf, dated, dayAnswer, answerBytes}
-use Rattle.promises.specs.Demand.{AnsweredLog, AnsweredDay, FigureAt, FiguresOwed, EveryFigureWithinBound}
-use Rattle.log.specs.Log.{bufferAfter}
+use lib.ListN.{length}
+use Rattle.promises.specs.Demand.{AnsweredLog, AnsweredDay, FigureAt, NotRefused, FiguresOwed, EveryFigureWithinBound}
+use Rattle.log.specs.Log.{outcomeOf, bufferAfter}
 use Rattle.promises.proofs.Days.{answer-at, good-in-calendar}
 use Rattle.log.proofs.SoundStation.{station-constants}
 use Rattle.promises.proofs.Stations.{station-sound}
@@ -52,6 +53,10 @@ pub log-within-bound : (s buffer : List ℕ) → FiguresOwed s buffer (bufferAft
 unfolding FiguresOwed
 log-within-bound s buffer log i place st x earlier d = figure-at d buffer log
 
-pub demand-met : EveryFigureWithinBound bufferAfter judged
+pub not-refused : (s buffer : List ℕ) → NotRefused s buffer (outcomeOf s (length buffer))
+unfolding NotRefused AnsweredLog
+not-refused s buffer log = log
+
+pub demand-met : EveryFigureWithinBound (λ s buffer. outcomeOf s (length buffer)) bufferAfter judged
 unfolding EveryFigureWithinBound
-demand-met = (log-within-bound, judged-within-bound)
+demand-met = (λ s buffer. (not-refused s buffer, log-within-bound s buffer), judged-within-bound)

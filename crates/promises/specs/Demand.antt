@@ -17,6 +17,7 @@ use Rattle.day.specs.declared.Verdict.{Verdict}
 use Rattle.answers.specs.Answers.{kindOf, dated}
 use Rattle.promises.specs.Days.{DayAt}
 use Rattle.log.specs.Log.{outcomeOf}
+use Rattle.log.specs.declared.Outcome.{Outcome}
 use Rattle.log.specs.declared.Outcome.the-variants.{Written}
 
 -- "none of 1 to 5 and 12 and no log refusal that a request adds holds of the log and its answer buffer", by the rules and not by what a reader returns
@@ -35,11 +36,16 @@ unfoldable pub FigureAt : Station → Day → Earlier → ℕ → List ℕ → T
 FigureAt st x earlier place after =
     (n : ℕ) × (take 9 (drop place after) ≡ dated (kindOf (withMark x n)) (x .year) (x .d) n) × WithinBound st (asJudged x) earlier n
 
+-- "An answered day gets a figure and no refusal": nor is its log refused. Which length is returned `Read` says, and not the demand.
+unfoldable pub NotRefused : List ℕ → List ℕ → Outcome → Type 0
+NotRefused s buffer returned = AnsweredLog s buffer → (n : ℕ) × (returned ≡ Written n)
+
 -- what is owed for a log: `buffer` is the answer buffer as it was lent, `after` as it is left
 unfoldable pub FiguresOwed : List ℕ → List ℕ → List ℕ → Type 0
 FiguresOwed s buffer after =
     AnsweredLog s buffer → (i place : ℕ) (st : Station) (x : Day) (earlier : Earlier) → AnsweredDay s i st x earlier place → FigureAt st x earlier place after
 
--- the demand: `read` gives the buffer that a reader leaves, of the log and of the buffer lent
-unfoldable pub EveryFigureWithinBound : (List ℕ → List ℕ → List ℕ) → (Station → Day → Earlier → Verdict) → Type 0
-EveryFigureWithinBound read judge = ((s buffer : List ℕ) → FiguresOwed s buffer (read s buffer)) × JudgesWithinBound judge
+-- the demand: of a log and the buffer lent, `returned` gives what a reader hands back and `left` the buffer that it leaves
+unfoldable pub EveryFigureWithinBound : (List ℕ → List ℕ → Outcome) → (List ℕ → List ℕ → List ℕ) → (Station → Day → Earlier → Verdict) → Type 0
+EveryFigureWithinBound returned left judge =
+    ((s buffer : List ℕ) → NotRefused s buffer (returned s buffer) × FiguresOwed s buffer (left s buffer)) × JudgesWithinBound judge

@@ -20,14 +20,14 @@ returns : tie.Need-returns
 returns c =
     let n = c .before .before in
     let read = n .before .before .before .before .read-log .ensures in
-    (c .packed .ensures ∙ ap outcomeSaid (sym (n .n .given .1) ∙ read .0 .outcome), (read .0 .written, read .1))
+    (c .packed .ensures ∙ ap outcomeSaid (sym (n .n .given .1) ∙ read .0 .outcome), (read .0 .written, read .1 .1))
 
 returns-2 : tie.Need-returns-2
 returns-2 c =
     let k = c .before .before in
     let read = k .before .before .before .before .read-log .ensures in
     let outcome = sym (k .k .given .1) ∙ read .0 .outcome in
-    (c .packed2 .ensures ∙ refused-said _ _ outcome ∙ ap outcomeSaid outcome, (read .0 .written, read .1))
+    (c .packed2 .ensures ∙ refused-said _ _ outcome ∙ ap outcomeSaid outcome, (read .0 .written, read .1 .1))
 
 pub fuortwem-read-log-spec : {M : Type 1} → statement M
 fuortwem-read-log-spec =

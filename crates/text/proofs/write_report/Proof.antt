@@ -36,7 +36,7 @@ returns c =
     let call = c .before .before in
     let told = call .before .before .before in
     let log = told .before .before .before .before in
-    (report-text (read log (told .number .given .1)) (call .print-refused .ensures), (log .read-log .ensures .0 .written, log .read-log .ensures .1))
+    (report-text (read log (told .number .given .1)) (call .print-refused .ensures), (log .read-log .ensures .0 .written, log .read-log .ensures .1 .1))
 
 returns-2 : tie.Need-returns-2
 returns-2 c =
@@ -44,7 +44,7 @@ returns-2 c =
     let told = call .before .before .before .before in
     let log = told .before .before .before .before in
     let h = read log (told .n .given .1) in
-    (report-text h (call .print-answers .ensures _ (answers-held h) (answers-ordered _)), (log .read-log .ensures .0 .written, log .read-log .ensures .1))
+    (report-text h (call .print-answers .ensures _ (answers-held h) (answers-ordered _)), (log .read-log .ensures .0 .written, log .read-log .ensures .1 .1))
 
 pub write-report-spec : {M : Type 1} → statement M
 write-report-spec =
