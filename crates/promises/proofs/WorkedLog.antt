@@ -24,7 +24,7 @@ use Rattle.records.specs.Record.{stationAt, dayAt, recordAt}
 use Rattle.promises.proofs.Sample.{sample, fields, station, plainDay, day-there, third}
 
 -- day 12, the third: two earlier means, of days that are refused
-abbrev means : Earlier
+abbrev pub means : Earlier
 means = record { one = Present (pos 200); two = Present (pos 200); three = Absent }
 
 pub answered : AnsweredDay sample 3 (stationAt sample 1) (dayAt sample 54) means 23
