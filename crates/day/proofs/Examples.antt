@@ -154,10 +154,10 @@ abbrev winterMeans : Earlier
 winterMeans = record { one = Present (pos 200); two = Present (pos 200); three = Absent }
 
 -- a day whose figure is above 0
-abbrev summerDay : Day
+abbrev pub summerDay : Day
 summerDay = record { year = 2008; d = 180; maximum = pos 900; minimum = pos 550; mean = pos 720; dewpoint = pos 500; radiation = pos 7_000; wind = pos 1_000 }
 
-abbrev summerMeans : Earlier
+abbrev pub summerMeans : Earlier
 summerMeans = record { one = Present (pos 710); two = Present (pos 700); three = Absent }
 
 -- the same after three means that differ: without one of them, or with one in another's place, the figure is another

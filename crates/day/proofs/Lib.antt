@@ -12,3 +12,4 @@ pub mod Examples
 pub mod WithoutSubstitute
 pub mod LeastValues
 pub mod WithEleven
+pub mod Idle

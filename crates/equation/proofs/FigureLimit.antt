@@ -24,13 +24,13 @@ use Rattle.equation.proofs.TemperatureBound.{nonneg-above, e-rounded, e
 use Rattle.equation.proofs.Nearness.{figure-rounded-at}
 
 -- an entry may stand for itself
-half-unit-self : (u : Ratio) → T (nonnegᴿ u) → (r : ℕ) → HalfUnit (fraction u) r (fromℤ (pos r) *ℚ fraction u)
+pub half-unit-self : (u : Ratio) → T (nonnegᴿ u) → (r : ℕ) → HalfUnit (fraction u) r (fromℤ (pos r) *ℚ fraction u)
 unfolding HalfUnit
 half-unit-self u hu r =
     near-weaken (near-self (fromℤ (pos r) *ℚ fraction u)) (of-nonneg (nonneg-mul (nonneg-ratio (1 over 2) tt) (nonneg-ratio u hu)))
 
 -- the vapour pressure is at most 15.2, so that 4, which is 400,000,000 units, is not below its root
-vapour-root : (f : ℤ) → IsTemperature f → (x : ℚ) × RootOf (1 /ℚ 100000000) (equation.e (tenths f)) x
+pub vapour-root : (f : ℤ) → IsTemperature f → (x : ℚ) × RootOf (1 /ℚ 100000000) (equation.e (tenths f)) x
 vapour-root f between =
     root-exists (nonneg-ratio (1 over 100000000) tt) (nonneg-above (nonneg-ratio (87 over 1000) tt) (e-low f (between .low) (between .high))) 400000000
     (≤ℚ-trans (e-rounded f (between .low) (between .high) .size .high)
