@@ -25,9 +25,9 @@ use Rattle.answers.specs.declared.Answer.the-variants as answer
 use Rattle.records.specs.Bytes.{wordAt, signedOf, signedAt}
 use Rattle.records.specs.Record.{stationAt, dayAt, cropAt, recordAt}
 use Rattle.promises.specs.CropFigures.{CropDay, CropFigureAt, CropFiguresOwed, EveryCropFigure}
-use Rattle.promises.specs.Demand.{AnsweredLog}
+use Rattle.promises.specs.Demand.{AnsweredLog, AnsweredDay}
 use Rattle.log.specs.History.{daysBefore, goodDate, counted, earlierMeans, verdictOf}
-use Rattle.log.specs.Log.{planted, cropAnswers, answersTo, readFrom, readingOf, outcomeOf, leaves, bufferAfter}
+use Rattle.log.specs.Log.{bare, planted, cropAnswers, answersTo, readFrom, readingOf, outcomeOf, leaves, bufferAfter}
 use Rattle.log.specs.declared.Outcome.the-variants as outcome
 use Rattle.promises.proofs.WithoutKind.{foundWithout, readWithout, readingWithout, Without}
 use Rattle.promises.proofs.CropFigures.{crop-figures-met}
@@ -98,13 +98,37 @@ worked =
     ∷ dayAnswer (dayAt cropLog 163) (days .2 .told i)
     ∷ []))))) ++ []
 
+-- the answers before that of day 180 in the second block
+abbrev front-two : Verdict → Verdict → Verdict → Verdict → Verdict → Verdict → List Answer
+front-two v w u a b c =
+    answer.Station (stationAt cropLog 1 .code)
+    ∷ (sown 42 v ++ (sown 59 w ++ (sown 76 u
+    ++ (answer.Station (stationAt cropLog 93 .code)
+    ∷ dayAnswer (dayAt cropLog 112) a ∷ dayAnswer (dayAt cropLog 129) b ∷ dayAnswer (dayAt cropLog 146) c
+    ∷ []))))
+
+-- record 9 is the same day after other means
+abbrev pub otherMeans : Earlier
+otherMeans = record { one = Present (pos 850); two = Present (pos 610); three = Present (pos 455) }
+
+pub second-day : AnsweredDay cropLog 9 (stationAt cropLog 93) (dayAt cropLog 163) otherMeans 73
+unfolding readingOf readFrom recordAt stationAt dayAt cropAt wordAt signedOf signedAt isDate yearLength daysBefore goodDate counted earlierMeans verdictOf Answered badCrop inSeason above cropFigure day-there
+second-day =
+    record {
+      at = day-there cropLog 9
+          (record { station = stationAt cropLog 93; days = dayAt cropLog 146 ∷ dayAt cropLog 129 ∷ dayAt cropLog 112 ∷ []; crop = bare })
+          (dayAt cropLog 163) refl refl
+          (sym (λ i. length (bytesOf (front-two (lacking .0 i) (lacking .1 i) (days .1 .told i) (lacking .2 i) (lacking .3 i) (lacking .4 i)))));
+      others = λ r t. days .2 .answered r;
+    }
+
 -- ---- a buffer of 84 bytes
 
 abbrev lent : List ℕ
 lent = replicate 84 9
 
 -- 82 are needed
-outcome-is : outcomeOf cropLog 84 ≡ outcome.Written 82
+pub outcome-is : outcomeOf cropLog 84 ≡ outcome.Written 82
 unfolding outcomeOf readingOf readFrom recordAt stationAt dayAt cropAt wordAt signedOf signedAt badCrop
 outcome-is = λ i. let n = length (bytesOf (worked i)) in cond (ltb 84 n) (outcome.Refused 12 n) (outcome.Written n)
 
