@@ -67,6 +67,41 @@ even =
       limit = routineLimit;
     }
 
+-- one without a clear day of its own: the minimum, 100 cal/cm²/d, stands for it
+abbrev dim : Station
+dim =
+    record {
+      code = record { first = 76; second = 73; third = 68; fourth = 87 };
+      c1 = pos 0;
+      c2 = pos 0;
+      c3 = pos 0;
+      c4 = pos 0;
+      c5 = pos 0;
+      minimum = 100;
+      elevation = 497;
+      limit = routineLimit;
+    }
+
+-- LIDW with other letters than its first
+abbrev spelt : ℕ → ℕ → ℕ → Station
+spelt second third fourth =
+    record {
+      code = record { first = 76; second = second; third = third; fourth = fourth };
+      c1 = pos 154;
+      c2 = pos 1_760;
+      c3 = pos 614;
+      c4 = negsuc 395;
+      c5 = pos 590;
+      minimum = 100;
+      elevation = 497;
+      limit = routineLimit;
+    }
+
+-- a day at any date, the wind missing
+abbrev windless : ℕ → ℕ → Day
+windless year d =
+    record { year = year; d = d; maximum = pos 320; minimum = pos 320; mean = pos 320; dewpoint = pos 320; radiation = pos 0; wind = negsuc 32_767 }
+
 -- a dark day at any date
 abbrev dated : ℕ → ℕ → Day
 dated year d = record { year = year; d = d; maximum = pos 320; minimum = pos 320; mean = pos 320; dewpoint = pos 320; radiation = pos 0; wind = pos 0 }
@@ -139,6 +174,12 @@ table =
     ∷ (atStation (station 65 100 497) gives 0)
     ∷ (atStation (station 90 100 497) gives 0)
     ∷ (atStation (station 91 100 497) gives 3)
+    ∷ (atStation (spelt 64 68 87) gives 3)
+    ∷ (atStation (spelt 91 68 87) gives 3)
+    ∷ (atStation (spelt 73 64 87) gives 3)
+    ∷ (atStation (spelt 73 91 87) gives 3)
+    ∷ (atStation (spelt 73 68 64) gives 3)
+    ∷ (atStation (spelt 73 68 91) gives 3)
     ∷ (atStation (station 76 49 497) gives 3)
     ∷ (atStation (station 76 50 497) gives 0)
     ∷ (atStation (station 76 200 497) gives 0)
@@ -219,8 +260,12 @@ table =
     -- 10: twice a clear day of 500 cal/cm²/d
     ∷ (refusedWith even (withRadiation (pos 10_000)) (means Absent Absent Absent) gives 0)
     ∷ (refusedWith even (withRadiation (pos 10_001)) (means Absent Absent Absent) gives 10)
-    -- where two hold, the first in order: 3 and 6, 6 and 8, 7 and 8, 8 and 9, 9 and 10
+    -- 10: twice the minimum, where that stands for the clear day
+    ∷ (refusedWith dim (withRadiation (pos 2_000)) (means Absent Absent Absent) gives 0)
+    ∷ (refusedWith dim (withRadiation (pos 2_001)) (means Absent Absent Absent) gives 10)
+    -- where two hold, the first in order: 3 and 6, 6 and 7, 6 and 8, 7 and 8, 8 and 9, 9 and 10
     ∷ (refusedWith (station 64 100 497) (dated 2100 1) (means Absent Absent Absent) gives 3)
+    ∷ (onDay (windless 2100 1) gives 6)
     ∷ (refusedWith lidw (dated 2100 1) (means (Present (negsuc 94)) Absent Absent) gives 6)
     ∷ (onDay (reading (negsuc 32_767) (pos 550) (pos 720) (pos 500) (pos 7_000) (negsuc 0)) gives 7)
     ∷ (onDay (withMinimum (pos 1_292)) gives 8)

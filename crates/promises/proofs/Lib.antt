@@ -10,6 +10,7 @@ pub mod WorkedCrop
 pub mod WorkedLimit
 pub mod WorkedEstimate
 pub mod LogEdges
+pub mod WorkedRules
 pub mod Idle
 pub mod TwoParts
 pub mod WithoutKind

@@ -9,7 +9,7 @@ use lib.Dec.{ltb}
 use lib.ListN.{length, drop, length-append, length-drop}
 use Rattle.records.proofs.Choice.{by-cond}
 use Rattle.answers.proofs.Overwriting.{laid-front}
-use Rattle.text.specs.Report.{Prints}
+use Rattle.text.specs.Report.{Prints, printedIn}
 use Rattle.lines.specs.Text.{header}
 use Rattle.text.specs.Walk.{Laid}
 use Rattle.lines.specs.Written.{Written, AtFront}
@@ -38,6 +38,13 @@ module _ {text before : List ℕ} {n : ℕ} where
         told = ap printed.Written (omega (arith, w .behind)) ∙ ap (toldBy text before) (sym test);
         bytes = w .bytes ∙ laid-front before text ∙ ap (leftBy text before) (sym test);
       }
+
+-- a buffer of just the length is long enough, and one of a byte less is not
+pub just-enough : (text : List ℕ) → printedIn (length text) text ≡ printed.Written (length text)
+just-enough text = ap (toldBy text text) (le-ltb (length text) (length text) (omega arith))
+
+pub one-less : (text : List ℕ) (size : ℕ) → size + 1 ≡ length text → printedIn size text ≡ printed.Needs (length text)
+one-less text size e = ap (toldBy text text) (lt-ltb size (length text) (omega (arith, e)))
 
 -- ---- the number that is returned
 
