@@ -3,19 +3,21 @@
 use mathlib.Core.Path.{_≡_, refl, sym, _∙_, ap, subst}
 use mathlib.Core.Bool.{Bool, true, false, not, cond, _&&_}
 use mathlib.Core.List.{List, [], _∷_}
+use Prim.Native.Nat.{ℕ, _+_}
 use native.Mathlib.Omega.{arith}
 use lib.IntN.{ℤ, pos, negsuc}
-use lib.Dec.{T}
+use lib.Dec.{T, eqb, eqb→eq, eqb-refl}
 use lib.Signed.{ltZ, leZ}
 use mir.Syntax.{w16}
 use mir.Val.{SFits, toZ, ofZ}
 use mir.Facts.{toZ-ofZ}
+use Rattle.numbers.specs.Congruence.{bool-equal}
 use Rattle.numbers.specs.Ranges.{Range, InRange, inRange}
 use Rattle.numbers.proofs.RangeTests.{test-in-range}
 use Rattle.numbers.proofs.Reflection.{readBack}
 use Rattle.sheet.specs.Quantities as quantities
 use Rattle.sheet.proofs.Values.{given-back}
-use Rattle.day.specs.Rules.{anyOf}
+use Rattle.day.specs.Rules.{anyOf, isMissing}
 
 -- what sixteen bits hold
 pub in-word : (z : ℤ) → SFits w16 z → InRange quantities.signedWord z
@@ -37,11 +39,24 @@ pub first-fails : (a b z : ℤ) → SFits w16 z → leZ a (read16 z) ≡ false �
 first-fails a b z f e = let g : leZ a z ≡ false = rw (toZ-ofZ f) at e in rw (toZ-ofZ f, g)
 
 -- a comparison of what the machine reads back is one of the numbers
-pub le-read : (m : ℤ) {z : ℤ} {b : Bool} → SFits w16 z → leZ (read16 z) m ≡ b → leZ z m ≡ b
-le-read m f e = rw (toZ-ofZ f) at e
-
 pub lt-read : {y z : ℤ} {b : Bool} → SFits w16 y → SFits w16 z → ltZ (read16 y) (read16 z) ≡ b → ltZ y z ≡ b
 lt-read f g e = rw (toZ-ofZ f, toZ-ofZ g) at e
+
+-- the mark of a missing reading, by the sixteen bits that the machine compares
+pub mark-test : (z : ℤ) → SFits w16 z → eqb (ofZ w16 z) 32768 ≡ isMissing z
+mark-test (pos n) f = bool-equal (eqb n 32768) false (λ t. let e = eqb→eq n 32768 t in absurd (omega (arith, e, f .sfits))) (λ t. absurd t)
+mark-test (negsuc n) f =
+    bool-equal _ _ (λ t. let e = eqb→eq (ofZ w16 (negsuc n)) 32768 t in equal (n + 1) 32768 (omega (arith, e, f .sfits)))
+    (λ t. let e = eqb→eq (n + 1) 32768 t in equal (ofZ w16 (negsuc n)) 32768 (omega (arith, e, f .sfits)))
+  where
+    equal : (m k : ℕ) → m ≡ k → T (eqb m k)
+    equal m k e = subst (λ (l : ℕ). T (eqb m l)) e (eqb-refl m)
+
+pub marked : {z : ℤ} → SFits w16 z → ofZ w16 z ≡ 32768 → isMissing z ≡ true
+marked {z} f e = sym (mark-test z f) ∙ ap (λ (n : ℕ). eqb n 32768) e
+
+pub unmarked : {z : ℤ} → SFits w16 z → (ofZ w16 z ≡ 32768 → ⊥) → isMissing z ≡ false
+unmarked {z} f not-mark = sym (mark-test z f) ∙ bool-equal (eqb (ofZ w16 z) 32768) false (λ t. not-mark (eqb→eq (ofZ w16 z) 32768 t)) (λ t. absurd t)
 
 -- ---- tests in a row: the first that holds decides
 

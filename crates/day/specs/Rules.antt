@@ -1,10 +1,10 @@
 -- The rules of one day: when each refusal holds, in document 01's order and with its numbers. Assumes nothing.
 use mathlib.Core.Bool.{Bool, true, false, not, cond, _||_}
 use mathlib.Core.List.{List, [], _∷_, _++_}
-use Prim.Native.Nat.{ℕ}
-use lib.Dec.{ltb}
+use Prim.Native.Nat.{ℕ, _+_}
+use lib.Dec.{ltb, eqb}
 use lib.IntN.{ℤ, pos, negsuc}
-use lib.Signed.{ltZ, leZ}
+use lib.Signed.{ltZ}
 use Rattle.numbers.specs.Ranges.{inRange}
 use Rattle.sheet.specs.Limits as limits
 -- the limit that kind 1 keeps, for the crates above, which do not rest on `sheet`
@@ -46,9 +46,10 @@ stationFaults first second third fourth minimum elevation limit =
 abbrev pub badStation : Station → Bool
 badStation st = anyOf (stationFaults (st .code .first) (st .code .second) (st .code .third) (st .code .fourth) (st .minimum) (st .elevation) (st .limit))
 
--- 7: any of the six readings missing. The value -32,768, the least of the readings' type, means missing.
+-- 7: any of the six readings missing. "The value -32,768 means missing"; `negsuc n` is -(n + 1).
 abbrev pub isMissing : ℤ → Bool
-isMissing f = leZ f (negsuc 32767)
+isMissing (pos n) = false
+isMissing (negsuc n) = eqb (n + 1) 32_768
 
 -- the readings other than the dew point
 abbrev pub otherMarks : ℤ → ℤ → ℤ → ℤ → ℤ → List Bool

@@ -11,7 +11,7 @@ fn lacks_dew_point(day: Day) -> bool
     ensures { λ r. ⌜ r ≡ lacksDewPoint day ⌝ }
 {
     let dewpoint = day.dewpoint;
-    if dewpoint <= MISSING {
+    if dewpoint == MISSING {
         return !other_missing(day.maximum, day.minimum, day.mean, day.radiation, day.wind);
     }
     false

@@ -8,7 +8,7 @@ use crate::readings::Temperature;
 use crate::readings::Wind;
 use crate::readings::WindLimit;
 
-// The mark of a missing reading: no i16 is lower.
+// The mark of a missing reading.
 pub const MISSING: i16 = -32_768;
 
 // Whether a letter of a code is no capital.
@@ -58,19 +58,19 @@ pub fn station_field_out_of_range(
 pub fn other_missing(maximum: i16, minimum: i16, mean: i16, radiation: i16, wind: i16) -> bool
     ensures { λ r. ⌜ r ≡ anyOf (otherMarks maximum minimum mean radiation wind) ⌝ }
 {
-    if maximum <= MISSING {
+    if maximum == MISSING {
         return true;
     }
-    if minimum <= MISSING {
+    if minimum == MISSING {
         return true;
     }
-    if mean <= MISSING {
+    if mean == MISSING {
         return true;
     }
-    if radiation <= MISSING {
+    if radiation == MISSING {
         return true;
     }
-    wind <= MISSING
+    wind == MISSING
 }
 
 // Refusal 7: one of the six readings is missing.
@@ -84,7 +84,7 @@ pub fn some_missing(
 ) -> bool
     ensures { λ r. ⌜ r ≡ anyOf (missingMarks maximum minimum mean dewpoint radiation wind) ⌝ }
 {
-    if dewpoint <= MISSING {
+    if dewpoint == MISSING {
         return true;
     }
     other_missing(maximum, minimum, mean, radiation, wind)

@@ -3,12 +3,11 @@ use mathlib.Core.Path.{_≡_, refl, _∙_, ap}
 use mathlib.Core.Bool.{not}
 use native.Mathlib.Omega.{arith}
 use borrow.Author.Needs.{needs}
-use lib.IntN.{negsuc}
 use mir.Syntax.{w16}
 use mir.Val.{SFits}
 use Rattle.day.specs.Rules.{anyOf, otherMarks}
 use Rattle.day.specs.Judgement.{lacksDewPoint}
-use Rattle.day.proofs.Tests.{read16, le-read, first-here, first-there, as-read-five}
+use Rattle.day.proofs.Tests.{read16, marked, unmarked, first-here, first-there, as-read-five}
 use Rattle.day.proofs.dew_point.lacks_dew_point.Statement.{statement}
 use Rattle.day.proofs.dew_point.lacks_dew_point.Tie as tie
 
@@ -32,11 +31,11 @@ unfolding lacksDewPoint
 returns c =
     let then = c .before .before .before .before .before .before in
     let s = then .before .before in
-    ap not (c .other-missing .ensures ∙ others-read s) ∙ first-here _ _ (le-read (negsuc 32767) (dewpoint-fits s) (then .if1 .taken))
+    ap not (c .other-missing .ensures ∙ others-read s) ∙ first-here _ _ (marked (dewpoint-fits s) (then .if1 .taken))
 
 returns-2 : tie.Need-returns-2
 unfolding lacksDewPoint
-returns-2 c = first-there _ (le-read (negsuc 32767) (dewpoint-fits (c .before .before)) (c .if1 .left)) refl
+returns-2 c = first-there _ (unmarked (dewpoint-fits (c .before .before)) (c .if1 .left)) refl
 
 pub lacks-dew-point-spec : {M : Type 1} → statement M
 lacks-dew-point-spec = tie.close (tie.spec (λ c κs. search needs) returns returns-2)
