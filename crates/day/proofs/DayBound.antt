@@ -85,12 +85,7 @@ module _ (st : Station) (day : Day) (earlier : Earlier) (constants : SignedConst
         c3 = constants .c3;
         c4 = constants .c4;
         c5 = constants .c5;
-        minimum = record {
-          bounds = (
-            passed-tests.minimum-low st day earlier (none-holds StationField),
-            passed-tests.minimum-high st day earlier (none-holds StationField),
-          );
-        };
+        minimum = passed-tests.minimum-in st day earlier (none-holds StationField);
         limit = passed-tests.limit-in st day earlier (none-holds StationField);
         d = record {
           bounds = (passed-tests.day-low st day earlier (none-holds BadDate), passed-tests.day-high st day earlier (none-holds BadDate));

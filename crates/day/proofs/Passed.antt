@@ -5,12 +5,13 @@ use mathlib.Core.List.{List, [], _∷_}
 use mathlib.Core.Bool.{Bool, false, not, cond}
 use Prim.Native.Nat.{ℕ, _≤_}
 use native.Mathlib.Nat.{le-trans}
-use borrow.Author.Tests.{ltb-false, not-false}
-use lib.Dec.{T, ltb}
+use borrow.Author.Tests.{not-false}
+use lib.Dec.{T}
 use lib.IntN.{ℤ, pos}
 use lib.Signed.{ltZ, _≤ℤ_}
 use Rattle.numbers.specs.Ranges.{InRange}
 use Rattle.numbers.proofs.IntegerOrder.{leZ-is}
+use Rattle.sheet.specs.Limits as limits
 use Rattle.sheet.specs.Quantities as quantities
 use Rattle.sheet.specs.Accepted.{ReadingsInRange, EntriesInRange}
 use Rattle.tables.proofs.ValueRanges.{albedo-in, a1-in, aw-in, bw-in, pressure-in}
@@ -34,17 +35,14 @@ module _ (st : Station) (day : Day) (earlier : Earlier) (accepted : holds Statio
   unfolding holds
   station-passed = all-false fieldFaults accepted
 
-  pub minimum-low : 50 ≤ st .minimum
-  minimum-low = ltb-false (st .minimum) 50 (station-passed .1 .1 .1 .1 .0)
-
-  pub minimum-high : st .minimum ≤ 200
-  minimum-high = ltb-false 200 (st .minimum) (station-passed .1 .1 .1 .1 .1 .0)
+  pub minimum-in : InRange quantities.clearMinimum (pos (st .minimum))
+  minimum-in = passed quantities.clearMinimum (station-passed .1 .1 .1 .1 .0)
 
   pub elevation-high : st .elevation ≤ 3000
-  elevation-high = ltb-false 3000 (st .elevation) (station-passed .1 .1 .1 .1 .1 .1 .0)
+  elevation-high = passed limits.elevation {z = pos (st .elevation)} (station-passed .1 .1 .1 .1 .1 .0) .bounds .1
 
   pub limit-in : InRange quantities.windLimit (pos (st .limit))
-  limit-in = passed quantities.windLimit (station-passed .1 .1 .1 .1 .1 .1 .1 .0)
+  limit-in = passed quantities.windLimit (station-passed .1 .1 .1 .1 .1 .1 .0)
 
 -- ---- the date
 

@@ -30,8 +30,7 @@ abbrev pub anyOf : List Bool → Bool
 anyOf [] = false
 anyOf (b ∷ bs) = cond b true (anyOf bs)
 
--- 3: a station field out of range. Code: four capitals A to Z. Minimum: 50 to 200. Elevation: 0 to 3,000. c1 to c5: any. "A
--- limit out of range falls under 3" (02, W2).
+-- 3: a station field out of range. Code: four capitals A to Z. c1 to c5: any. "A limit out of range falls under 3" (02, W2).
 abbrev pub notCapital : ℕ → Bool
 notCapital x = ltb x 65 || ltb 90 x
 
@@ -41,7 +40,10 @@ codeFaults first second third fourth = notCapital first ∷ notCapital second �
 abbrev pub stationFaults : ℕ → ℕ → ℕ → ℕ → ℕ → ℕ → ℕ → List Bool
 stationFaults first second third fourth minimum elevation limit =
     codeFaults first second third fourth
-    ++ (ltb minimum 50 ∷ ltb 200 minimum ∷ ltb 3000 elevation ∷ not (inRange limits.windLimit (pos limit)) ∷ [])
+    ++ (not (inRange limits.clearMinimum (pos minimum))
+    ∷ not (inRange limits.elevation (pos elevation))
+    ∷ not (inRange limits.windLimit (pos limit))
+    ∷ [])
 
 abbrev pub badStation : Station → Bool
 badStation st = anyOf (stationFaults (st .code .first) (st .code .second) (st .code .third) (st .code .fourth) (st .minimum) (st .elevation) (st .limit))

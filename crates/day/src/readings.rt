@@ -1,4 +1,4 @@
-// The kinds of readings and a station's wind limit, each with its range.
+// The kinds of readings, and a station's fields that have a range, each with its own.
 ghost use mathlib.Core.Path.{_≡_};
 ghost use lib.IntN.{pos};
 ghost use Rattle.numbers.specs.Ranges.{inRange};
@@ -55,6 +55,42 @@ impl Wind {
     {
         let t = self.tenths;
         Wind::LOW <= t && t <= Wind::HIGH
+    }
+}
+
+// A station's clear-day minimum, in cal/cm²/d.
+pub struct ClearMinimum {
+    pub calories: u16,
+}
+
+impl ClearMinimum {
+    pub const LOW: u16 = 50;
+
+    pub const HIGH: u16 = 200;
+
+    pub fn in_range(self) -> bool
+        ensures { λ r. ⌜ r ≡ inRange limits.clearMinimum (pos (self .calories)) ⌝ }
+    {
+        let c = self.calories;
+        ClearMinimum::LOW <= c && c <= ClearMinimum::HIGH
+    }
+}
+
+// A station's elevation, in metres.
+pub struct Elevation {
+    pub metres: u16,
+}
+
+impl Elevation {
+    pub const LOW: u16 = 0;
+
+    pub const HIGH: u16 = 3_000;
+
+    pub fn in_range(self) -> bool
+        ensures { λ r. ⌜ r ≡ inRange limits.elevation (pos (self .metres)) ⌝ }
+    {
+        let m = self.metres;
+        Elevation::LOW <= m && m <= Elevation::HIGH
     }
 }
 

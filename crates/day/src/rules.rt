@@ -3,6 +3,8 @@ ghost use mathlib.Core.Path.{_≡_};
 ghost use Rattle.day.specs.Rules.{notCapital, stationFaults, otherMarks, missingMarks, readingFaults, meanFault, orderFaults};
 ghost use Rattle.day.specs.Rules.{anyOf};
 use crate::Mean;
+use crate::readings::ClearMinimum;
+use crate::readings::Elevation;
 use crate::readings::Radiation;
 use crate::readings::Temperature;
 use crate::readings::Wind;
@@ -42,13 +44,10 @@ pub fn station_field_out_of_range(
     if not_capital(fourth) {
         return true;
     }
-    if minimum < 50 {
+    if !(ClearMinimum { calories: minimum }).in_range() {
         return true;
     }
-    if 200 < minimum {
-        return true;
-    }
-    if 3_000 < elevation {
+    if !(Elevation { metres: elevation }).in_range() {
         return true;
     }
     !(WindLimit { tenths: limit }).in_range()

@@ -19,10 +19,14 @@ routineLimit = 1_500
 abbrev pub windLimit : Range
 windLimit = from 1_000 to routineLimit
 
--- "Minimum: 50 to 200", `d` in its longest year, and a signed number of two bytes
+-- "Minimum: 50 to 200", in cal/cm²/d. "Elevation: 0 to 3,000", in metres.
 abbrev pub clearMinimum : Range
 clearMinimum = from 50 to 200
 
+abbrev pub elevation : Range
+elevation = from 0 to 3_000
+
+-- `d` in its longest year, and a signed number of two bytes
 abbrev pub dayOfYear : Range
 dayOfYear = from 1 to 366
 

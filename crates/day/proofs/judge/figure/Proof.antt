@@ -15,7 +15,7 @@ use Rattle.sheet.proofs.Values.{keep, given-back}
 use Rattle.day.specs.Judgement.{readingsOf, entriesOf, clearOf, figureOf, holds, Answered}
 use Rattle.day.specs.declared.Refusal.{Refusal}
 use Rattle.day.specs.declared.Refusal.the-variants.{StationField, BadDate, OutOfRange, AboveClear}
-use Rattle.day.proofs.Passed.{minimum-low, minimum-high, elevation-high, limit-in, day-low, day-high, one-passed, two-passed, three-passed, readings-in, entries-in}
+use Rattle.day.proofs.Passed.{minimum-in, elevation-high, limit-in, day-low, day-high, one-passed, two-passed, three-passed, readings-in, entries-in}
 use Rattle.day.proofs.judge.figure.Statement.{statement}
 use Rattle.day.proofs.judge.figure.Tie as tie
 
@@ -50,8 +50,8 @@ clear-of-requires c κs =
     let s = c .before .before .before in (
       low s,
       high s,
-      minimum-low (s .args .station) (s .args .day) (s .args .earlier) (none-holds s StationField),
-      minimum-high (s .args .station) (s .args .day) (s .args .earlier) (none-holds s StationField),
+      minimum-in (s .args .station) (s .args .day) (s .args .earlier) (none-holds s StationField) .bounds .0,
+      minimum-in (s .args .station) (s .args .day) (s .args .earlier) (none-holds s StationField) .bounds .1,
     )
 
 figure-requires : tie.Need-figure-requires

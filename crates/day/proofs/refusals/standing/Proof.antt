@@ -8,7 +8,7 @@ use Rattle.day.specs.Judgement.{readingsOf, holds, firstOf, standingOf}
 use Rattle.day.specs.declared.Refusal.{Refusal}
 use Rattle.day.specs.declared.Refusal.the-variants.{StationField, BadDate, Missing, OutOfRange, OutOfOrder, AboveClear}
 use Rattle.day.specs.declared.Standing.{Standing}
-use Rattle.day.proofs.Passed.{minimum-low, minimum-high, day-low, day-high, readings-in}
+use Rattle.day.proofs.Passed.{minimum-in, day-low, day-high, readings-in}
 use Rattle.day.proofs.Tests.{first-here, first-there}
 use Rattle.day.proofs.refusals.standing.Statement.{statement}
 use Rattle.day.proofs.refusals.standing.Tie as tie
@@ -70,8 +70,8 @@ above-clear-requires c κs =
       (
         day-low (s .station) (s .day) (s .earlier) (no-date e2),
         day-high (s .station) (s .day) (s .earlier) (no-date e2),
-        minimum-low (s .station) (s .day) (s .earlier) (no-station e1),
-        minimum-high (s .station) (s .day) (s .earlier) (no-station e1),
+        minimum-in (s .station) (s .day) (s .earlier) (no-station e1) .bounds .0,
+        minimum-in (s .station) (s .day) (s .earlier) (no-station e1) .bounds .1,
       ),
       readings-in (s .station) (s .day) (s .earlier) (no-range e4) .radiation,
     )

@@ -5,7 +5,6 @@ use mathlib.Core.Bool.{Bool, not}
 use mathlib.Core.List.{List}
 use Prim.Native.Nat.{ℕ}
 use borrow.Author.Needs.{needs}
-use borrow.Author.Tests.{lt-ltb, le-ltb}
 use lib.ListN.{drop}
 use Rattle.day.specs.Rules.{anyOf, stationFaults}
 use Rattle.day.proofs.Tests.{first-here, first-there, any-last}
@@ -31,14 +30,11 @@ third-letter-passed c = first-there _ (sym (c .before .not-capital3 .ensures) �
 fourth-letter-passed : (c : tie.Else4) → Decided 4 (c .before .before .before .before .before .before .before .before)
 fourth-letter-passed c = first-there _ (sym (c .before .not-capital4 .ensures) ∙ c .if4 .left) refl ∙ third-letter-passed (c .before .before)
 
-minimum-not-low : (c : tie.Else5) → Decided 5 (c .before .before .before .before .before .before .before .before .before)
-minimum-not-low c = first-there _ (le-ltb _ _ (c .if5 .left)) refl ∙ fourth-letter-passed (c .before)
+minimum-passed : (c : tie.Else5) → Decided 5 (c .before .before .before .before .before .before .before .before .before .before)
+minimum-passed c = first-there _ (sym (ap not (c .before .in-range .ensures)) ∙ c .if5 .left) refl ∙ fourth-letter-passed (c .before .before)
 
-minimum-not-high : (c : tie.Else6) → Decided 6 (c .before .before .before .before .before .before .before .before .before .before)
-minimum-not-high c = first-there _ (le-ltb _ _ (c .if6 .left)) refl ∙ minimum-not-low (c .before)
-
-elevation-passed : (c : tie.Else7) → Decided 7 (c .before .before .before .before .before .before .before .before .before .before .before)
-elevation-passed c = first-there _ (le-ltb _ _ (c .if7 .left)) refl ∙ minimum-not-high (c .before)
+elevation-passed : (c : tie.Else6) → Decided 6 (c .before .before .before .before .before .before .before .before .before .before .before .before)
+elevation-passed c = first-there _ (sym (ap not (c .before .in-range2 .ensures)) ∙ c .if6 .left) refl ∙ minimum-passed (c .before .before)
 
 returns : tie.Need-returns
 returns c = first-here _ _ (sym (c .before .not-capital .ensures) ∙ c .if1 .taken)
@@ -53,19 +49,16 @@ returns-4 : tie.Need-returns-4
 returns-4 c = first-here _ _ (sym (c .before .not-capital4 .ensures) ∙ c .if4 .taken) ∙ third-letter-passed (c .before .before)
 
 returns-5 : tie.Need-returns-5
-returns-5 c = first-here _ _ (lt-ltb _ _ (c .if5 .taken)) ∙ fourth-letter-passed (c .before)
+returns-5 c = first-here _ _ (sym (ap not (c .before .in-range .ensures)) ∙ c .if5 .taken) ∙ fourth-letter-passed (c .before .before)
 
 returns-6 : tie.Need-returns-6
-returns-6 c = first-here _ _ (lt-ltb _ _ (c .if6 .taken)) ∙ minimum-not-low (c .before)
+returns-6 c = first-here _ _ (sym (ap not (c .before .in-range2 .ensures)) ∙ c .if6 .taken) ∙ minimum-passed (c .before .before)
 
 returns-7 : tie.Need-returns-7
-returns-7 c = first-here _ _ (lt-ltb _ _ (c .if7 .taken)) ∙ minimum-not-high (c .before)
-
-returns-8 : tie.Need-returns-8
-returns-8 c = any-last _ (ap not (c .in-range .ensures)) ∙ elevation-passed (c .before)
+returns-7 c = any-last _ (ap not (c .in-range3 .ensures)) ∙ elevation-passed (c .before)
 
 pub station-field-out-of-range-spec : {M : Type 1} → statement M
 station-field-out-of-range-spec =
     tie.close
-    (tie.spec (λ c κs. search needs) returns (λ c κs. search needs) returns-2 (λ c κs. search needs) returns-3 (λ c κs. search needs) returns-4 returns-5
-    returns-6 returns-7 (λ c κs. search needs) returns-8)
+    (tie.spec (λ c κs. search needs) returns (λ c κs. search needs) returns-2 (λ c κs. search needs) returns-3 (λ c κs. search needs) returns-4
+    (λ c κs. search needs) returns-5 (λ c κs. search needs) returns-6 (λ c κs. search needs) returns-7)
