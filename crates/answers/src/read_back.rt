@@ -17,7 +17,7 @@ use day::Verdict;
 use records::bytes::code_at;
 use records::bytes::word;
 
-// The refusal of a number.
+// The refusal of a number. Of a number that no refusal has the result is left open: no answer has such a one.
 fn refusal_of(number: u32) -> Refusal
     ensures { λ r. ⌜ ((why : Reason) → number ≡ numberOf why → r ≡ why) ⌝ }
 {

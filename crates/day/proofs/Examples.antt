@@ -68,7 +68,6 @@ rest =
     ∷ (sheet.N (pos 320) gives pos 245_844)
     ∷ (sheet.M (pos 320) gives pos 15_006_000)
     ∷ (sheet.M (pos 500) gives pos 14_864_340)
-    ∷ (sheet.g (pos 1_013_000) (sheet.M (pos 320)) gives pos 65_444_240)
     ∷ (clearDay gives pos 770_046_400_000)
     ∷ (sheet.K (pos 5_390) clearDay gives (pos 1_017 *ℤ sheet.ρ (pos 5_390) clearDay ÷↓ pos 1_000) -ℤ pos 60_000_000)
     ∷ (sheet.K (pos 5_391) clearDay gives (pos 1_126 *ℤ sheet.ρ (pos 5_391) clearDay ÷↓ pos 1_000) -ℤ pos 70_000_000)
@@ -78,9 +77,12 @@ rest =
     ∷ (refusal (pos 10_001) gives pos 10)
     ∷ []
 
--- the pressure's value is a search and is not computed: its row stands first
+-- "E = 0: p 1,013,000; with m = 320, g 65,444,240". The pressure's value is a search and is not computed: its two rows stand first.
 abbrev table : List Row
-table = (pos (pressureAt 0) gives pos 1_013_000) ∷ rest
+table =
+    (pos (pressureAt 0) gives pos 1_013_000)
+    ∷ (sheet.g (pos (pressureAt 0)) (sheet.M (pos 320)) gives pos 65_444_240)
+    ∷ rest
 
 sea-level : 1_013_000 ≡ pressureAt 0
 unfolding powerTest upper lower tenthUp tenthDown
@@ -88,7 +90,7 @@ sea-level = pressure-is 0 1_013_000 (lit≤ tt) tt
 
 marked : map given table ≡ map written table
 unfolding curveAt rounded bellSums expSum sumTo more sheet.U sheet.V2 sheet.V4 sheet.V6 sheet.V7 sheet.V8 sheet.e sheet.D sheet.M sheet.g sheet.clearSum sheet.Q sheet.aboveTwiceClear sheet.ρ sheet.K sheet.N
-marked = ap (λ (p : ℕ). pos p ∷ map written rest) (sym sea-level)
+marked = ap (λ (p : ℕ). pos p ∷ sheet.g (pos p) (sheet.M (pos 320)) ∷ map written rest) (sym sea-level)
 
 -- ---- a day worked through: the pressure and the root are searches too, so both are put in as numbers
 

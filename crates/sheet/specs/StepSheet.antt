@@ -31,9 +31,9 @@ V6 f = V4 f *ℤ V2 f ÷↓ pos 1_000_000_000
 unfoldable pub V7 : ℤ → ℤ
 V7 f = V6 f *ℤ U f ÷↓ pos 100_000
 
--- ---- Vapour pressure e = (V8 - 1,900 × |f + 160| + 1,316,000) × 338,639/100,000, down; ea at the dew point.
+-- ---- Vapour pressure e = (V8 - 1,900 × (f + 160) + 1,316,000) × 338,639/100,000, down, as 02, W6 leaves it; ea at the dew point.
 
--- 10⁻⁹ kPa; without the absolute value (02, W6), since f + 160 is above zero at every accepted temperature
+-- 10⁻⁹ kPa; W6 took out the bars of |f + 160|, since f + 160 is above zero at every accepted temperature (day/proofs/LeastValues.antt)
 unfoldable pub e : ℤ → ℤ
 e f = (V8 f -ℤ pos 1_900 *ℤ (f +ℤ pos 160) +ℤ pos 1_316_000) *ℤ pos 338_639 ÷↓ pos 100_000
 
