@@ -5,3 +5,4 @@ pub mod Alike
 pub mod Bodies
 pub mod FoundThere
 pub mod Part
+pub mod Examples
