@@ -15,3 +15,6 @@ pub mod Counted
 pub mod Longest
 pub mod OutcomeSize
 pub mod DateOrder
+pub mod Sample
+pub mod Edges
+pub mod WorkedRules

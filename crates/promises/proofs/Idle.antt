@@ -7,7 +7,7 @@ use native.Mathlib.Omega.{arith}
 use lib.ListN.{getD, length, replicate, take, drop}
 use Rattle.numbers.specs.Fractions.{_+ℚ_, -ℚ_, _*ℚ_, _/ℚ_, nonneg, Near}
 use Rattle.numbers.proofs.Near.{near-trans, near-sym}
-use Rattle.day.specs.Judgement.{asJudged}
+use Rattle.day.specs.Judgement.{asJudged, withMark}
 use Rattle.day.specs.declared.Day.{Day}
 use Rattle.day.specs.declared.Earlier.{Earlier}
 use Rattle.day.specs.declared.Station.{Station}
@@ -22,8 +22,7 @@ use Rattle.promises.specs.Demand.{AnsweredLog, FigureAt, NotRefused, Fig
 use Rattle.log.specs.Log.{readFrom, readingOf, outcomeOf}
 use Rattle.log.specs.declared.Outcome.{Outcome}
 use Rattle.log.specs.declared.Outcome.the-variants.{Written, Refused}
-use Rattle.promises.proofs.Sample.{sample}
-use Rattle.promises.proofs.Sample.{twoMeans}
+use Rattle.log.proofs.Sample.{sample, twoMeans}
 use Rattle.promises.proofs.WorkedCrop.{cropLog, crop-day, otherMeans, second-day, outcome-is}
 use Rattle.promises.proofs.WorkedLog.{means, answered}
 
@@ -36,7 +35,7 @@ unfolding AnsweredLog outcomeOf readingOf readFrom recordAt stationAt dayAt word
 accepted-there = (32, refl)
 
 -- 0 is the kind of no answer
-no-kind : (x : Day) (n : ℕ) → _≡_ {A = ℕ} 0 (kindOf (Rattle.day.specs.Judgement.withMark x n)) → ⊥
+no-kind : (x : Day) (n : ℕ) → _≡_ {A = ℕ} 0 (kindOf (withMark x n)) → ⊥
 no-kind x n = either-way (λ v. _≡_ {A = ℕ} 0 (kindOf v) → ⊥) x {n = n} (λ e. absurd (omega (arith, e))) (λ e. absurd (omega (arith, e)))
 
 -- 1 for a log that is written, 0 for one that is refused

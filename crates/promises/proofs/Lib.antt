@@ -4,13 +4,11 @@ pub mod Days
 pub mod Stations
 pub mod Demand
 pub mod CropFigures
-pub mod Sample
+pub mod DayThere
 pub mod WorkedLog
 pub mod WorkedCrop
 pub mod WorkedLimit
 pub mod WorkedEstimate
-pub mod LogEdges
-pub mod WorkedRules
 pub mod Idle
 pub mod TwoParts
 pub mod WithoutKind

@@ -31,7 +31,8 @@ use Rattle.log.specs.Log.{bare, planted, cropAnswers, answersTo, readFrom, read
 use Rattle.log.specs.declared.Outcome.the-variants as outcome
 use Rattle.promises.proofs.WithoutKind.{foundWithout, readWithout, readingWithout, Without}
 use Rattle.promises.proofs.CropFigures.{crop-figures-met}
-use Rattle.promises.proofs.Sample.{sample, station, day-there, windless, beans, lidw, missing, noMean, oneMean, twoMeans}
+use Rattle.log.proofs.Sample.{sample, station, windless, beans, lidw, missing, noMean, oneMean, twoMeans}
+use Rattle.promises.proofs.DayThere.{day-there}
 
 -- day 180 of 2008: 90, 55, 72 and 50 °F, 700 cal/cm²/d, 100 miles
 abbrev summer : List ℕ

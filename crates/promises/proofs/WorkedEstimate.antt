@@ -35,7 +35,8 @@ use Rattle.log.specs.declared.Outcome.the-variants as outcome
 use Rattle.promises.proofs.CropFigures.{crop-figures-met}
 use Rattle.promises.proofs.Demand.{log-within-bound}
 use Rattle.promises.proofs.WithoutSubstitute.{verdictStrictly, allStrictly, outcomeStrictly, bufferStrictly}
-use Rattle.promises.proofs.Sample.{sample, station, day-there, windless, beans, lidw, missing, noMean, oneMean, twoMeans}
+use Rattle.log.proofs.Sample.{sample, station, windless, beans, lidw, missing, noMean, oneMean, twoMeans}
+use Rattle.promises.proofs.DayThere.{day-there}
 
 -- day 179 of 2008, 71 °F, neither a dew point nor the wind; day 180: 90, 55 and 72 °F, no dew point, 700 cal/cm²/d, 100 miles
 abbrev twoMissing : List ℕ

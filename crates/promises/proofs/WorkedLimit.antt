@@ -27,7 +27,8 @@ use Rattle.log.specs.Log.{bare, answersTo, readFrom, readingOf, entriesOf, outc
 use Rattle.promises.proofs.WithoutKind.{foundWithout, readWithout, readingWithout, Without}
 use Rattle.log.specs.declared.Outcome.the-variants as outcome
 use Rattle.promises.proofs.Demand.{log-within-bound}
-use Rattle.promises.proofs.Sample.{sample, fields, station, day-there, windless, lidw, missing, noMean, oneMean, twoMeans}
+use Rattle.log.proofs.Sample.{sample, fields, station, windless, lidw, missing, noMean, oneMean, twoMeans}
+use Rattle.promises.proofs.DayThere.{day-there}
 
 -- LIDW as kind 8 with the limit 1,000
 abbrev limitedStation : List ℕ

@@ -21,11 +21,17 @@ use Rattle.log.specs.History.{daysBefore, goodDate, counted, earlierMeans, verd
 use Rattle.log.specs.Log.{bare, answersTo, readFrom, readingOf, outcomeOf, bufferAfter}
 use Rattle.answers.specs.declared.Answer.the-variants as answer
 use Rattle.records.specs.Record.{stationAt, dayAt, recordAt}
-use Rattle.promises.proofs.Sample.{sample, fields, station, plainDay, day-there, third}
+use Rattle.log.proofs.Sample.{sample, fields, station, plainDay}
+use Rattle.promises.proofs.DayThere.{day-there}
 
 -- day 12, the third: two earlier means, of days that are refused
 abbrev pub means : Earlier
 means = record { one = Present (pos 200); two = Present (pos 200); three = Absent }
+
+pub third : DayAt sample 3 (stationAt sample 1) (dayAt sample 54) means true 23
+unfolding readingOf readFrom recordAt stationAt dayAt wordAt signedOf signedAt isDate yearLength daysBefore goodDate counted earlierMeans
+third =
+    day-there sample 3 (record { station = stationAt sample 1; days = dayAt sample 37 ∷ dayAt sample 20 ∷ []; crop = bare }) (dayAt sample 54) refl refl refl
 
 pub answered : AnsweredDay sample 3 (stationAt sample 1) (dayAt sample 54) means 23
 unfolding stationAt dayAt wordAt signedOf signedAt Answered

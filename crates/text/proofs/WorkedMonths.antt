@@ -24,8 +24,8 @@ use Rattle.records.specs.Bytes.{wordAt, signedOf, signedAt}
 use Rattle.records.specs.Record.{stationAt, dayAt, recordAt}
 use Rattle.log.specs.History.{daysBefore, goodDate, counted, earlierMeans, verdictOf}
 use Rattle.log.specs.Log.{answersTo, readFrom, readingOf, outcomeOf}
-use Rattle.promises.proofs.Sample as sample
-use Rattle.promises.proofs.Sample.{windless, noMean, oneMean}
+use Rattle.log.proofs.Sample as sample
+use Rattle.log.proofs.Sample.{windless, noMean, oneMean}
 use Rattle.lines.specs.Text.{totals, monthLine, seasonLine, leading, digits, padded, inches, verdictText, header, dayLine}
 use Rattle.totals.specs.Months.{daysBy, monthOf}
 use Rattle.text.specs.Report.{reportOf, wholeReport}

@@ -16,7 +16,7 @@ use Rattle.day.specs.Calendar.{yearLength}
 use Rattle.tables.specs.Values.{first}
 use Rattle.totals.specs.Months.{daysBy, monthOf}
 use Rattle.log.specs.Log.{answersTo, readFrom, readingOf, outcomeOf}
-use Rattle.promises.proofs.Sample.{sample}
+use Rattle.log.proofs.Sample.{sample}
 use Rattle.log.specs.declared.Outcome.the-variants as outcome
 use Rattle.promises.proofs.WorkedLog.{worked}
 use Rattle.promises.proofs.WorkedCrop.{cropLog}
