@@ -1,6 +1,7 @@
 //! What is handed in and what comes back, as this project writes it, and the parts that are compared.
 
 pub mod days;
+pub mod documents;
 pub mod equation;
 pub mod office;
 pub mod plain;
