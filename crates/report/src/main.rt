@@ -1,13 +1,37 @@
-// The report: a station log on standard input, its report on standard output; where the one cannot be read to its end or the other takes no more, a
-// line on standard error.
+// The report: a station log on standard input, its report on standard output; for an argument, an input that cannot be read to its end and an output
+// that takes no more, a line on standard error.
+ghost use Rattle.io.specs.Counts.{Counts};
 use libc::STDERR_FILENO;
 use libc::STDIN_FILENO;
 use libc::STDOUT_FILENO;
 
-// Whether standard input is at its end. One that cannot be read is not, nor one whose last read was interrupted.
-fn at_end() -> bool {
-    let mut byte = [0u8; 1];
-    libc::read(STDIN_FILENO, &mut byte) == 0
+// How many bytes were read, and whether a read failed behind them.
+struct Input {
+    size: usize,
+    failed: bool,
+}
+
+// Reads standard input to its end, or as far as there is room. It goes by what each read answers, and asks none again: a connection that was reset
+// fails once, and from then on looks as if it had ended.
+fn read_input(log: &mut [u8]) -> Input
+    ensures { λ r. ⌜ Counts (r .size) (now (log .exit)) ⌝ }
+{
+    let mut size = 0;
+    while size < log.len() {
+        let got = libc::read(STDIN_FILENO, &mut log[size..]);
+        let more = io::count(got, &log[size..]);
+        if more == 0 {
+            return Input {
+                size,
+                failed: got < 0,
+            };
+        }
+        size += more;
+    }
+    Input {
+        size,
+        failed: false,
+    }
 }
 
 // Prints the report of a log.
@@ -20,16 +44,21 @@ fn print(log: &[u8]) {
     }
 }
 
-// The longest log, and one byte more, so that a longer one is seen to be longer.
 fn main() {
+    if os::arg_count() > 1 {
+        io::write_all(STDERR_FILENO, b"usage: report < LOG\n");
+        return;
+    }
+    // The longest log, and one byte more, so that a longer one is seen to be longer.
     let mut log = [0u8; 65_537];
-    let n = io::read_full(STDIN_FILENO, &mut log);
-    if n < 65_537 && !at_end() {
+    let input = read_input(&mut log);
+    if input.failed {
         io::write_all(
             STDERR_FILENO,
             b"report: standard input cannot be read to its end\n",
         );
         return;
     }
-    print(&log[..n]);
+    let size = input.size;
+    print(&log[..size]);
 }
