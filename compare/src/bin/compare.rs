@@ -8,10 +8,14 @@ use compare::second::{calendar, crop, station, Reason};
 use compare::{equation, office, second, table_text, Day, Outcome, Verdict, MISSING};
 use std::collections::{BTreeMap, BTreeSet};
 use std::fmt::Debug;
-use std::io::{ErrorKind, Write};
+use std::fs::File;
+use std::io::{ErrorKind, Seek, Write};
+use std::os::fd::OwnedFd;
+use std::os::unix::net::UnixStream;
 use std::path::{Path, PathBuf};
-use std::process::{Command, ExitCode, Stdio};
-use std::time::Instant;
+use std::process::{ChildStdin, Command, ExitCode, Stdio};
+use std::thread::sleep;
+use std::time::{Duration, Instant};
 
 struct Size {
     days: u64,
@@ -963,8 +967,21 @@ fn report_program() -> PathBuf {
     )
 }
 
-/// What the report program prints for a log on standard input. It must end well and print nothing elsewhere.
-fn printed(program: &Path, log: &[u8]) -> Result<Vec<u8>, String> {
+/// Writes a log in so many pieces, and then closes the pipe.
+fn write_in_pieces(mut pipe: ChildStdin, log: &[u8], pieces: usize) -> std::io::Result<()> {
+    for (i, piece) in log.chunks(log.len().div_ceil(pieces).max(1)).enumerate() {
+        if i > 0 {
+            // So that the reader has taken what came before, and does not get two pieces as one.
+            sleep(Duration::from_millis(100));
+        }
+        pipe.write_all(piece)?;
+    }
+    Ok(())
+}
+
+/// What the report program prints for a log that comes to standard input in so many pieces. It must end well and print
+/// nothing elsewhere.
+fn printed(program: &Path, log: &[u8], pieces: usize) -> Result<Vec<u8>, String> {
     let trouble = |error: std::io::Error| format!("report program {}: {error}", program.display());
     let mut child = Command::new(program)
         .stdin(Stdio::piped())
@@ -972,10 +989,10 @@ fn printed(program: &Path, log: &[u8]) -> Result<Vec<u8>, String> {
         .stderr(Stdio::piped())
         .spawn()
         .map_err(trouble)?;
-    let mut input = child.stdin.take().expect("standard input is piped");
+    let input = child.stdin.take().expect("standard input is piped");
     std::thread::scope(|scope| {
         // Beside the reading, so that neither pipe can fill up and stop the other.
-        let writing = scope.spawn(move || input.write_all(log));
+        let writing = scope.spawn(move || write_in_pieces(input, log, pieces));
         let output = child.wait_with_output().map_err(trouble)?;
         match writing.join().expect("writing does not panic") {
             // The program may stop reading as soon as it knows that a log is too long.
@@ -991,8 +1008,12 @@ fn printed(program: &Path, log: &[u8]) -> Result<Vec<u8>, String> {
     })
 }
 
+fn samples() -> PathBuf {
+    Path::new(env!("CARGO_MANIFEST_DIR")).join("../samples")
+}
+
 fn sample_logs() -> Result<Vec<Vec<u8>>, String> {
-    let samples = Path::new(env!("CARGO_MANIFEST_DIR")).join("../samples");
+    let samples = samples();
     let trouble = |error: std::io::Error| format!("{}: {error}", samples.display());
     let mut logs = Vec::new();
     for entry in std::fs::read_dir(&samples).map_err(trouble)? {
@@ -1005,6 +1026,106 @@ fn sample_logs() -> Result<Vec<Vec<u8>>, String> {
         return Err(format!("{}: no logs", samples.display()));
     }
     Ok(logs)
+}
+
+/// A connection that its other end reset behind these bytes: reading it fails there once, and from then on looks as if it
+/// had ended.
+fn reset_behind(bytes: &[u8]) -> std::io::Result<OwnedFd> {
+    let (mut far, mut near) = UnixStream::pair()?;
+    far.write_all(bytes)?;
+    // What the other end leaves unread makes its close a reset.
+    near.write_all(&[0])?;
+    Ok(near.into())
+}
+
+const USAGE: &str = "usage: report < LOG\n";
+const UNREAD: &str = "report: standard input cannot be read to its end\n";
+const UNWRITTEN: &str = "report: standard output takes no more\n";
+
+/// A run that can print no report: what the report program is handed, the run, and what it must say on standard error.
+type WithoutReport = (&'static str, Command, &'static str);
+
+/// The runs of the report program that can print no report. `log` is a sound one, which ends in a day.
+fn runs_without_report(program: &Path, log: &Path) -> std::io::Result<Vec<WithoutReport>> {
+    let bytes = std::fs::read(log)?;
+    let reading = |input: OwnedFd| {
+        let mut run = Command::new(program);
+        run.stdin(input);
+        run
+    };
+    let by_shell = |script: &str| {
+        let mut run = Command::new("sh");
+        run.arg("-c")
+            .arg(script)
+            .arg(program)
+            .stdin(File::open(log)?);
+        std::io::Result::Ok(run)
+    };
+    let mut full = reading(File::open(log)?.into());
+    full.stdout(File::options().write(true).open("/dev/full")?);
+    let without_last_day = &bytes[..bytes.len() - 17];
+    Ok(vec![
+        (
+            "a directory on standard input",
+            reading(File::open("/")?.into()),
+            UNREAD,
+        ),
+        (
+            "a closed standard input",
+            by_shell("exec \"$0\" <&-")?,
+            UNREAD,
+        ),
+        (
+            "a connection reset at once",
+            reading(reset_behind(&[])?),
+            UNREAD,
+        ),
+        (
+            "a connection reset between two days",
+            reading(reset_behind(without_last_day)?),
+            UNREAD,
+        ),
+        (
+            "a connection reset behind the last day",
+            reading(reset_behind(&bytes)?),
+            UNREAD,
+        ),
+        ("a full standard output", full, UNWRITTEN),
+        (
+            "a closed standard output",
+            by_shell("exec \"$0\" >&-")?,
+            UNWRITTEN,
+        ),
+    ])
+}
+
+/// A run must end well, print nothing and say this on standard error.
+fn says(what: &str, run: &mut Command, expected: &str) -> Result<(), String> {
+    let trouble = |error: std::io::Error| format!("the report program with {what}: {error}");
+    let output = run.output().map_err(trouble)?;
+    if output.status.success() && output.stdout.is_empty() && output.stderr == expected.as_bytes() {
+        return Ok(());
+    }
+    Err(format!(
+        "the report program with {what}: {}, standard output: {}\nstandard error: {}\nexpected: {expected}",
+        output.status,
+        String::from_utf8_lossy(&output.stdout),
+        String::from_utf8_lossy(&output.stderr)
+    ))
+}
+
+/// The report program takes no argument: it must say so, and leave its input where it was.
+fn compare_argument(program: &Path, log: &Path, argument: &str) -> Result<(), String> {
+    let what = format!("the argument {argument:?}");
+    let trouble = |error: std::io::Error| format!("the report program with {what}: {error}");
+    let mut input = File::open(log).map_err(trouble)?;
+    let mut run = Command::new(program);
+    run.arg(argument).stdin(input.try_clone().map_err(trouble)?);
+    says(&what, &mut run, USAGE)?;
+    match input.stream_position().map_err(trouble)? {
+        0 => Ok(()),
+        read => Err(format!("the report program with {what} read {read} bytes")),
+    }
 }
 
 /// Whether a log, with its report, is of a kind.
@@ -1044,13 +1165,29 @@ const LOG_KINDS: [(&str, IsOfKind); 14] = [
 #[derive(Default)]
 struct ProgramTally {
     texts: u64,
+    in_pieces: u64,
+    without_report: u64,
     met: [u64; LOG_KINDS.len()],
     months: MonthTally,
 }
 
 impl ProgramTally {
-    fn check(&mut self, program: &Path, log: &[u8]) -> Result<(), String> {
-        let given = printed(program, log)?;
+    fn check_without_report(&mut self, program: &Path) -> Result<(), String> {
+        let log = samples().join("worked.log");
+        for argument in ["", "-h", "worked.log"] {
+            compare_argument(program, &log, argument)?;
+            self.without_report += 1;
+        }
+        let trouble = |error: std::io::Error| format!("a run that can print no report: {error}");
+        for (what, mut run, said) in runs_without_report(program, &log).map_err(trouble)? {
+            says(what, &mut run, said)?;
+            self.without_report += 1;
+        }
+        Ok(())
+    }
+
+    fn check(&mut self, program: &Path, log: &[u8], pieces: usize) -> Result<(), String> {
+        let given = printed(program, log, pieces)?;
         let expected = second::report(log);
         if given != expected.as_bytes() {
             return Err(format!(
@@ -1060,6 +1197,7 @@ impl ProgramTally {
             ));
         }
         self.texts += 1;
+        self.in_pieces += u64::from(pieces > 1);
         for (met, (_, is_of_kind)) in self.met.iter_mut().zip(LOG_KINDS) {
             *met += u64::from(is_of_kind(log, &expected));
         }
@@ -1068,7 +1206,10 @@ impl ProgramTally {
     }
 
     fn print(&self) {
-        println!("report program: {} texts are the same", self.texts);
+        println!(
+            "report program: {} texts are the same, {} of logs that came in pieces; {} runs print none and say why",
+            self.texts, self.in_pieces, self.without_report
+        );
         for (met, (kind, _)) in self.met.iter().zip(LOG_KINDS) {
             println!("  {kind}: {met} logs");
         }
@@ -1078,7 +1219,8 @@ impl ProgramTally {
 
 fn compare_program() -> Result<ProgramTally, String> {
     let mut random = Random::new(3);
-    let mut logs = sample_logs()?;
+    let samples = sample_logs()?;
+    let mut logs = samples.clone();
     logs.push(Vec::new());
     logs.extend(full_logs(&mut random));
     logs.extend(days::month_edges(&mut random));
@@ -1091,8 +1233,12 @@ fn compare_program() -> Result<ProgramTally, String> {
     let program = report_program();
     let mut tally = ProgramTally::default();
     for log in &logs {
-        tally.check(&program, log)?;
+        tally.check(&program, log, 1)?;
     }
+    for log in &samples {
+        tally.check(&program, log, 3)?;
+    }
+    tally.check_without_report(&program)?;
     Ok(tally)
 }
 
