@@ -6,3 +6,4 @@ pub mod Bodies
 pub mod FoundThere
 pub mod Part
 pub mod Examples
+pub mod Held
