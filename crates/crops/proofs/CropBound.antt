@@ -9,9 +9,10 @@ use lib.Dec.{T, lt→ltb}
 use lib.IntN.{pos}
 use lib.Signed.{_<ℤ_}
 use Rattle.numbers.specs.Solver.{_:-_, _:*_, :-_, _:=_}
-use Rattle.numbers.specs.Ratios.{Ratio, _over_, _+ᴿ_, _*ᴿ_, leᴿ}
+use Rattle.numbers.specs.Ratios.{Ratio, _over_, _+ᴿ_, _*ᴿ_}
+use Rattle.numbers.proofs.RatioTests.{leᴿ}
 use Rattle.numbers.specs.Fractions.{ℚ, fraction, fromℤ, _/ℚ_, _+ℚ_, _*ℚ_, -ℚ_, inverse, _÷ℚ_, _≤ℚ_, _<ℚ_, Near}
-use Rattle.numbers.specs.Rounding.{nearestError}
+use Rattle.numbers.proofs.RoundingErrors.{nearestError}
 use Rattle.numbers.proofs.FractionSolver.{ringℚ, from-multipleℚ, _#_, fraction-sum, fraction-product}
 use Rattle.numbers.proofs.Order.{NonNeg, nonneg-mul, nonneg-ratio, gap, from-gap, ≤ℚ-ratio, ≤ℚ-eq, ≤ℚ-trans, *ℚ-mono}
 use Rattle.numbers.proofs.WholeFractions.{nonneg-ℕ, fromℤ-mul, fromℕ-mono}
@@ -19,7 +20,8 @@ use Rattle.numbers.proofs.Inverse.{*ℚ-inverse, nonneg-inverse-of}
 use Rattle.numbers.proofs.Bounds.{bounded-abs, bounded-weaken, bound-nonneg}
 use Rattle.numbers.proofs.Near.{near, error, near-eq, near-trans, near-weaken, near-scale, near-abs}
 use Rattle.numbers.proofs.Quotients.{fromℤ-above, rounds-nearest}
-use Rattle.day.specs.Bound.{Within, WithinBound, provedBound}
+use Rattle.day.specs.Bound.{Within, WithinBound}
+use Rattle.day.proofs.DayBound.{provedBound}
 use Rattle.day.specs.declared.Day.{Day}
 use Rattle.day.specs.declared.Earlier.{Earlier}
 use Rattle.day.specs.declared.Station.{Station}

@@ -8,17 +8,17 @@ use native.Mathlib.Omega.{arith}
 use lib.IntN.{ℤ, pos}
 use lib.ListN.{length}
 use Rattle.numbers.specs.Ratios.{_over_}
-use Rattle.numbers.specs.Fractions.{ℚ, fromℤ, _/ℚ_, _-ℚ_, _*ℚ_, _≤ℚ_, absℚ}
+use Rattle.numbers.specs.Fractions.{fromℤ, _/ℚ_, _-ℚ_, _*ℚ_, _≤ℚ_, absℚ, ℚ, fraction}
 use Rattle.numbers.proofs.Order.{≤ℚ-ratio, ≤ℚ-trans}
 use Rattle.sheet.specs.Quantities as quantities
 use Rattle.sheet.specs.Accepted.{EntriesInRange}
-use Rattle.equation.specs.Equation.{value}
-use Rattle.equation.specs.Nearness as nearness
-use Rattle.equation.specs.Nearness.{tenths, Constants, ConstantsInRange, AllTemperatures, none, more, Accepted, bound, FigureNear}
+use Rattle.equation.specs.Equation.{value, tenths}
+use Rattle.equation.proofs.FigureNear as nearness
+use Rattle.equation.proofs.FigureNear.{Constants, ConstantsInRange, AllTemperatures, none, more, Accepted, bound, FigureNear}
 use Rattle.equation.proofs.Nearness.{figure-near}
 use Rattle.day.specs.Rules.{meanFault}
 use Rattle.day.specs.Judgement.{readingsOf, entriesOf, clearOf, withMean, meansOf, earlierOf, figureOf, holds, Answered, asJudged, withMark, judged}
-use Rattle.day.specs.Bound.{ifPresent, meansPresent, inputsOf, Within, WithinBound, provedBound, SignedConstants, FigureOwed, JudgesWithinBound}
+use Rattle.day.specs.Bound.{ifPresent, meansPresent, inputsOf, Within, WithinBound, SignedConstants, FigureOwed, JudgesWithinBound}
 use Rattle.day.specs.declared.Station.{Station}
 use Rattle.day.specs.declared.Day.{Day}
 use Rattle.day.specs.declared.Mean.{Mean}
@@ -29,6 +29,10 @@ use Rattle.day.specs.declared.Refusal.the-variants.{StationField, BadDat
 use Rattle.day.proofs.Standings.{answered-figure}
 use Rattle.day.proofs.Tests.{passed}
 use Rattle.day.proofs.Passed as passed-tests
+
+-- the sharper one that is proved of every answered day: 515/10,000,000 of an inch
+abbrev pub provedBound : ℚ
+provedBound = fraction bound
 
 -- ---- the earlier means that are present
 

@@ -7,7 +7,8 @@ use mathlib.Core.List.{List, [], _∷_, map}
 use Prim.Native.Nat.{ℕ}
 use lib.Dec.{lit<, lit≤}
 use lib.IntN.{ℤ, pos, negsuc, natAbs, _-ℤ_, _*ℤ_}
-use Rattle.numbers.specs.Whole.{_÷↓_, wholeRoot, WholeRoot}
+use Rattle.numbers.specs.Whole.{_÷↓_, wholeRoot}
+use Rattle.numbers.specs.Root.{WholeRoot}
 use Rattle.numbers.proofs.WholeRoots.{root-is}
 use Rattle.tables.specs.Values.{sumTo, more, expSum, sinSum, rounded, curveAt, arcSum, arcSums, bellSums, a1At, awAt, bwAt, pressureAt}
 use Rattle.tables.proofs.PowerTests.{powerTest, upper, lower, tenthUp, tenthDown}

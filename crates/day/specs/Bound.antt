@@ -2,19 +2,17 @@
 -- sharper: 5.15/100,000. Assumes nothing.
 use mathlib.Core.List.{List, [], _∷_}
 use mathlib.Core.Path.{_≡_}
-use Prim.Native.Nat.{ℕ, _≤_}
+use Prim.Native.Nat.{ℕ}
 use lib.IntN.{pos}
 use Rattle.numbers.specs.Ranges.{InRange}
-use Rattle.numbers.specs.Fractions.{ℚ, fraction, fromℤ, _/ℚ_, _-ℚ_, _*ℚ_, _≤ℚ_, absℚ}
+use Rattle.numbers.specs.Fractions.{ℚ, fromℤ, _/ℚ_, _-ℚ_, _*ℚ_, _≤ℚ_, absℚ}
 use Rattle.numbers.specs.Rounding.{RootOf}
 use Rattle.tables.specs.Series.{HalfUnit}
 use Rattle.tables.specs.Tables.{billionth, tenthPascal}
 use Rattle.tables.specs.Values.{albedoAt, a1At, awAt, bwAt, pressureAt}
 use Rattle.sheet.specs.Limits as limits
-use Rattle.sheet.specs.Quantities.{largestFigure}
-use Rattle.equation.specs.Equation.{Inputs, value}
+use Rattle.equation.specs.Equation.{Inputs, value, tenths}
 use Rattle.equation.specs.Equation as equation
-use Rattle.equation.specs.Nearness.{tenths, bound}
 use Rattle.day.specs.Judgement.{Answered, asJudged, withMark}
 use Rattle.day.specs.declared.Station.{Station}
 use Rattle.day.specs.declared.Day.{Day}
@@ -22,7 +20,6 @@ use Rattle.day.specs.declared.Mean.{Mean}
 use Rattle.day.specs.declared.Mean.the-variants.{Present, Absent}
 use Rattle.day.specs.declared.Earlier.{Earlier}
 use Rattle.day.specs.declared.Verdict.{Verdict}
-use Rattle.day.specs.declared.Verdict.the-variants.{Figure, Refused, Estimated}
 
 -- "the earlier means present", in °F: of the three calendar days before, those that have one
 abbrev pub ifPresent : Mean → List ℚ → List ℚ
@@ -81,10 +78,6 @@ Within inches st day earlier n = OfEveryValue st day earlier (λ v. absℚ (from
 unfoldable pub WithinBound : Station → Day → Earlier → ℕ → Type 0
 WithinBound = Within (6 /ℚ 100000)
 
--- the sharper one that is proved of every answered day: 515/10,000,000 of an inch
-abbrev pub provedBound : ℚ
-provedBound = fraction bound
-
 -- c1 to c5 are signed numbers of two bytes, any of them
 pub record SignedConstants (st : Station) : Type 0 where
   pub c1 : InRange limits.signedWord (st .c1)
@@ -98,16 +91,6 @@ pub record SignedConstants (st : Station) : Type 0 where
 unfoldable pub FigureOwed : Station → Day → Earlier → Verdict → Type 0
 FigureOwed st day earlier verdict =
     Answered st (asJudged day) earlier → (n : ℕ) × (verdict ≡ withMark day n) × WithinBound st (asJudged day) earlier n
-
--- the figure of a verdict that has one, marked or not, is at most so much
-abbrev pub FigureAtMost : ℕ → Verdict → Type 0
-FigureAtMost most (Figure n) = n ≤ most
-FigureAtMost most (Refused r) = Unit {0}
-FigureAtMost most (Estimated n) = n ≤ most
-
--- no figure is above the largest that the sheet's own range has: 150,000 ten-thousandths of an inch
-abbrev pub FigureInRange : Verdict → Type 0
-FigureInRange = FigureAtMost largestFigure
 
 -- the demand, over any judge of days
 unfoldable pub JudgesWithinBound : (Station → Day → Earlier → Verdict) → Type 0

@@ -7,7 +7,8 @@ use lib.IntN.{ℤ, pos, negsuc, _-ℤ_, _*ℤ_}
 use lib.Signed.{ltZ, _≤ℤ_}
 use Rattle.numbers.specs.Whole.{_÷↓_}
 use Rattle.numbers.specs.Solver.{_:+_, _:-_, _:*_, _:^_, :-_, _:=_}
-use Rattle.numbers.specs.Ratios.{Ratio, _over_, posᴿ}
+use Rattle.numbers.specs.Ratios.{Ratio, _over_}
+use Rattle.numbers.proofs.RatioTests.{posᴿ}
 use Rattle.numbers.specs.Fractions.{ℚ, fraction, fromℤ, _/ℚ_, _+ℚ_, _-ℚ_, _*ℚ_, -ℚ_, inverse, _÷ℚ_, _^ℚ_, nonneg, _≤ℚ_, _<ℚ_, aboveℚ, at-leastℚ}
 use Rattle.numbers.proofs.IntegerOrder.{leZ-is}
 use Rattle.numbers.proofs.FractionSolver.{ringℚ, from-multipleℚ, _#_}
@@ -21,7 +22,7 @@ use Rattle.numbers.proofs.RoundedQuotient.{quotient-rounded}
 use Rattle.numbers.proofs.RoundedLimit.{limited-below, test-in-units}
 use Rattle.sheet.specs.StepSheet as sheet
 use Rattle.equation.specs.Equation as equation
-use Rattle.equation.specs.Nearness.{tenths}
+use Rattle.equation.specs.Equation.{tenths}
 use Rattle.equation.proofs.Units.{billionths}
 
 -- ---- the clear-day radiation: exact

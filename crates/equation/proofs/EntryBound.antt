@@ -1,9 +1,10 @@
 -- The tables' entries against any fractions within half a unit of them. Assumes nothing.
 use mathlib.Core.Path.{_≡_, sym, _∙_, ap}
-use Prim.Native.Nat.{ℕ, _≤_}
+use Prim.Native.Nat.{ℕ}
 use lib.Dec.{T, le→leb}
 use lib.IntN.{ℤ, pos, negsuc, natAbs}
-use Rattle.numbers.specs.Ratios.{Ratio, _over_, _+ᴿ_, _*ᴿ_, -ᴿ_, nonnegᴿ, leᴿ}
+use Rattle.numbers.specs.Ratios.{Ratio, _over_, _+ᴿ_, _*ᴿ_, -ᴿ_, nonnegᴿ}
+use Rattle.numbers.proofs.RatioTests.{leᴿ}
 use Rattle.numbers.specs.Ranges.{from_to_, InRange}
 use Rattle.numbers.specs.Fractions.{ℚ, fraction, _/ℚ_, _+ℚ_, _*ℚ_, _≤ℚ_}
 use Rattle.numbers.proofs.FractionSolver.{fraction-sum, fraction-product}

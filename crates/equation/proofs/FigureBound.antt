@@ -22,7 +22,7 @@ use Rattle.numbers.proofs.Rounded.{Rounded, weaken, of-value, of-whole, differe
 use Rattle.numbers.proofs.RoundedQuotient.{plain-quotient, divisor-above}
 use Rattle.numbers.proofs.RoundedLimit.{limited-below}
 use Rattle.sheet.specs.StepSheet as sheet
-use Rattle.equation.specs.Nearness.{bound}
+use Rattle.equation.proofs.FigureNear.{bound}
 use Rattle.equation.proofs.Units.{tenMillionths}
 
 pub H-rounded : {rn soil : ℤ} {Rn G : ℚ} → Rounded rn tenMillionths Rn (865 over 10) (45 over 10000000) → Rounded soil tenMillionths G (30 over 1) (1 over 10000000) →

@@ -17,7 +17,8 @@ use Rattle.tables.specs.Series.{HalfUnit}
 use Rattle.sheet.specs.declared.Readings.{Readings}
 use Rattle.sheet.specs.declared.Entries.{Entries}
 use Rattle.equation.specs.Equation as equation
-use Rattle.equation.specs.Nearness.{tenths, Constants, Accepted, figureOf}
+use Rattle.equation.proofs.FigureNear.{Constants, Accepted, figureOf}
+use Rattle.equation.specs.Equation.{tenths}
 use Rattle.equation.proofs.Units.{billionths}
 use Rattle.equation.proofs.Ends.{IsTemperature, temperature-ends}
 use Rattle.equation.proofs.TemperatureBound.{nonneg-above, e-rounded, e-low}

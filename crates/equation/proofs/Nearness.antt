@@ -20,7 +20,7 @@ use Rattle.sheet.specs.declared.Readings.{Readings}
 use Rattle.sheet.specs.declared.Entries.{Entries}
 use Rattle.equation.specs.Equation.{value}
 use Rattle.equation.specs.Equation as equation
-use Rattle.equation.specs.Nearness.{Constants, ConstantsInRange, Accepted, clearDay, figureOf, bound, OfEveryValue, FigureNear}
+use Rattle.equation.proofs.FigureNear.{Constants, ConstantsInRange, Accepted, clearDay, figureOf, bound, OfEveryValue, FigureNear}
 use Rattle.equation.proofs.Units.{billionths}
 use Rattle.equation.proofs.Ends.{Between, IsTemperature, from-ends, minus-ends, temperature-ends, limit-ends}
 use Rattle.equation.proofs.TemperatureBound.{e-rounded, e-low}

@@ -18,7 +18,7 @@ use Rattle.numbers.proofs.RoundedRoot.{root-rounded}
 use Rattle.numbers.proofs.WholeRoots.{root-of}
 use Rattle.sheet.specs.StepSheet as sheet
 use Rattle.equation.specs.Equation as equation
-use Rattle.equation.specs.Nearness.{tenths}
+use Rattle.equation.specs.Equation.{tenths}
 use Rattle.equation.proofs.Units.{billionths, hundredMillionths, tenMillionths}
 
 -- half of a number, as the equation writes it

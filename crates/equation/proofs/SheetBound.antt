@@ -20,7 +20,8 @@ use Rattle.sheet.specs.declared.Entries.{Entries}
 use Rattle.sheet.specs.StepSheet.{sumOf}
 use Rattle.sheet.specs.StepSheet as sheet
 use Rattle.equation.specs.Equation as equation
-use Rattle.equation.specs.Nearness.{tenths, AllTemperatures, bound}
+use Rattle.equation.proofs.FigureNear.{AllTemperatures, bound}
+use Rattle.equation.specs.Equation.{tenths}
 use Rattle.equation.proofs.Units.{billionths}
 use Rattle.equation.proofs.Ends.{IsTemperature, IsLimit}
 use Rattle.equation.proofs.TemperatureBound.{nonneg-above, product-at-least, e-rounded, e-low, e-high, e-rises, Δ-low, M-rounded, L-low, fourth-power-rounded}

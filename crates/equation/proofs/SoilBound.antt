@@ -20,7 +20,8 @@ use Rattle.numbers.proofs.RoundedQuotient.{quotient-rounded}
 use Rattle.sheet.specs.StepSheet.{sumOf}
 use Rattle.sheet.specs.StepSheet as sheet
 use Rattle.equation.specs.Equation as equation
-use Rattle.equation.specs.Nearness.{tenths, AllTemperatures, none, more}
+use Rattle.equation.proofs.FigureNear.{AllTemperatures, none, more}
+use Rattle.equation.specs.Equation.{tenths}
 use Rattle.equation.proofs.Units.{tenMillionths}
 use Rattle.equation.proofs.Ends.{IsTemperature, temperature-ends}
 use Rattle.equation.proofs.TemperatureBound.{t-is}

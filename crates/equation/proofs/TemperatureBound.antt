@@ -7,7 +7,8 @@ use lib.Signed.{_≤ℤ_}
 use Rattle.numbers.specs.Whole.{_÷↓_}
 use Rattle.numbers.specs.Solver.{con, _:+_, _:-_, _:*_, _:^_, _:=_}
 use Rattle.numbers.specs.IntegerSolver.{ringℤ}
-use Rattle.numbers.specs.Ratios.{Ratio, _over_, _*ᴿ_, -ᴿ_, nonnegᴿ, leᴿ}
+use Rattle.numbers.specs.Ratios.{Ratio, _over_, _*ᴿ_, -ᴿ_, nonnegᴿ}
+use Rattle.numbers.proofs.RatioTests.{leᴿ}
 use Rattle.numbers.specs.Fractions.{ℚ, fraction, fromℤ, _/ℚ_, _+ℚ_, _-ℚ_, _*ℚ_, _^ℚ_, _≤ℚ_, absℚ}
 use Rattle.numbers.proofs.FractionSolver.{ringℚ, _#_, fraction-product}
 use Rattle.numbers.proofs.Order.{NonNeg, nonneg-add, nonneg-mul, nonneg-eq, nonneg-ratio, gap, from-gap, ≤ℚ-ratio, ≤ℚ-eq, ≤ℚ-trans, *ℚ-at-least}
@@ -19,7 +20,7 @@ use Rattle.numbers.proofs.Quotients.{rounds-down}
 use Rattle.numbers.proofs.Rounded.{Rounded, wholeᴿ, weaken, in-unit, of-value, of-whole, in-range, literal, sum, difference, product, multiple, scaled, divided, portion}
 use Rattle.sheet.specs.StepSheet as sheet
 use Rattle.equation.specs.Equation as equation
-use Rattle.equation.specs.Nearness.{tenths}
+use Rattle.equation.specs.Equation.{tenths}
 use Rattle.equation.proofs.Units.{billionths}
 
 -- a product from below, with a number for the product of the bounds

@@ -6,7 +6,7 @@ use lib.Signed.{_≤ℤ_}
 use Rattle.numbers.specs.Solver.{_:+_, _:-_, _:*_, _:=_}
 use Rattle.numbers.specs.Ratios.{_over_, _+ᴿ_, _*ᴿ_, inverseᴿ}
 use Rattle.numbers.specs.Fractions.{ℚ, fromℤ, _/ℚ_, _+ℚ_, _-ℚ_, _*ℚ_, inverse, _÷ℚ_, _≤ℚ_, _<ℚ_, Near}
-use Rattle.numbers.specs.Rounding.{downError}
+use Rattle.numbers.proofs.RoundingErrors.{downError}
 use Rattle.numbers.proofs.FractionSolver.{ringℚ, from-multipleℚ, _#_, fraction-sum, fraction-product}
 use Rattle.numbers.proofs.Order.{NonNeg, nonneg-add, nonneg-mul, nonneg-square, nonneg-ratio, gap, from-gap, ≤ℚ-ratio, <ℚ-ratio, ≤ℚ-eq, ≤ℚ-trans, <ℚ-≤ℚ-trans, +ℚ-mono}
 use Rattle.numbers.proofs.WholeFractions.{fromℤ-add, fromℤ-mul}
@@ -18,7 +18,7 @@ use Rattle.numbers.proofs.Rounded.{Rounded, weaken, of-value, sum, multiple, sc
 use Rattle.numbers.proofs.RoundedQuotient.{quotient-near, plain-quotient}
 use Rattle.sheet.specs.StepSheet as sheet
 use Rattle.equation.specs.Equation as equation
-use Rattle.equation.specs.Nearness.{tenths}
+use Rattle.equation.specs.Equation.{tenths}
 use Rattle.equation.proofs.Units.{billionths}
 use Rattle.equation.proofs.TemperatureBound.{nonneg-above, D-rounded, M-rounded, Δ-low, L-low, L-high}
 

@@ -20,7 +20,7 @@ use Rattle.numbers.proofs.RoundedLimit.{limited-above}
 use Rattle.sheet.specs.Quantities.{routineLimit}
 use Rattle.sheet.specs.StepSheet as sheet
 use Rattle.equation.specs.Equation as equation
-use Rattle.equation.specs.Nearness.{tenths}
+use Rattle.equation.specs.Equation.{tenths}
 use Rattle.equation.proofs.Units.{billionths, tenMillionths}
 use Rattle.equation.proofs.Ends.{IsLimit}
 use Rattle.equation.proofs.TemperatureBound.{nonneg-above}

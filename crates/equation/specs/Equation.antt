@@ -2,7 +2,8 @@
 -- it takes nothing from the step sheet. Assumes nothing.
 use mathlib.Core.Bool.{cond}
 use mathlib.Core.List.{List, [], _∷_}
-use Rattle.numbers.specs.Fractions.{ℚ, _/ℚ_, _+ℚ_, _-ℚ_, _*ℚ_, _÷ℚ_, _^ℚ_, absℚ, aboveℚ, at-leastℚ, at-mostℚ}
+use lib.IntN.{ℤ}
+use Rattle.numbers.specs.Fractions.{ℚ, fromℤ, _/ℚ_, _+ℚ_, _-ℚ_, _*ℚ_, _÷ℚ_, _^ℚ_, absℚ, aboveℚ, at-leastℚ, at-mostℚ}
 
 -- F is a temperature in °F, t = (F - 32)/1.8, y = 0.00738t + 0.8072
 unfoldable pub t : ℚ → ℚ
@@ -65,6 +66,10 @@ T aw bw u eMaximum eMinimum ea = 643 /ℚ 100 *ℚ (aw +ℚ 16093 /ℚ 10000 *�
 -- The value in inches: 0.03937(Δ(Rn - G) + γT)/((Δ + γ)L), or 0 if that is below 0
 unfoldable pub inches : ℚ → ℚ → ℚ → ℚ → ℚ → ℚ → ℚ
 inches Δ γ L Rn G T = at-leastℚ (0 /ℚ 1) ((3937 /ℚ 100000 *ℚ (Δ *ℚ (Rn -ℚ G) +ℚ γ *ℚ T)) ÷ℚ ((Δ +ℚ γ) *ℚ L))
+
+-- a reading in tenths as a fraction
+abbrev pub tenths : ℤ → ℚ
+tenths f = fromℤ f *ℚ 1 /ℚ 10
 
 -- What the equation is fed: `d`, the six readings in °F, cal and miles, the station's fields in their units, the earlier means present; the values
 -- of the tables' formulas; and x.

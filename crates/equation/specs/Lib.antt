@@ -1,3 +1,2 @@
--- The unrounded equation, and the statement of how far the step sheet's figure can lie from it. A reader of demand 3 needs Equation.
+-- The unrounded equation.
 pub mod Equation
-pub mod Nearness

@@ -1,5 +1,6 @@
 -- The lemmas that belong to no one function.
 pub mod Calendar
+pub mod StateOf
 pub mod Means
 pub mod Planted
 pub mod SoundStation

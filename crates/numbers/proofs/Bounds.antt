@@ -4,10 +4,11 @@ use mathlib.Core.Bool.{Bool, true, false, not, cond}
 use lib.Dec.{T}
 use lib.IntN.{pos}
 use Rattle.numbers.specs.Solver.{_:+_, _:-_, _:*_, :-_, _:=_}
-use Rattle.numbers.specs.Ratios.{Ratio, _over_, -ᴿ_, leᴿ}
+use Rattle.numbers.specs.Ratios.{Ratio, _over_, -ᴿ_}
+use Rattle.numbers.proofs.RatioTests.{leᴿ}
 use Rattle.numbers.specs.Fractions.{ℚ, fraction, fromℤ, _+ℚ_, _*ℚ_, -ℚ_, _-ℚ_, inverse, _÷ℚ_, nonneg, _≤ℚ_, _<ℚ_, absℚ}
 use Rattle.numbers.proofs.FractionSolver.{ringℚ, _#_, fraction-negation}
-use Rattle.numbers.proofs.Order.{NonNeg, nonneg-add, nonneg-mul, nonneg-eq, nonneg-negate, nonneg-ratio, gap, from-gap, ≤ℚ-ratio, ≤ℚ-eq, ≤ℚ-trans, <ℚ-≤ℚ, <ℚ-≤ℚ-trans}
+use Rattle.numbers.proofs.Order.{NonNeg, nonneg-add, nonneg-mul, nonneg-eq, nonneg-negate, nonneg-ratio, gap, from-gap, ≤ℚ-ratio, ≤ℚ-eq, ≤ℚ-trans, <ℚ-≤ℚ-trans}
 use Rattle.numbers.proofs.Inverse.{*ℚ-inverse, nonneg-inverse-of, inverse-at-most}
 
 pub record Bounded (x a : ℚ) : Type 0 where

@@ -1,6 +1,7 @@
 -- The lemmas that belong to no one function.
 pub mod IntegerOrder
 pub mod FractionSolver
+pub mod RatioTests
 pub mod Order
 pub mod WholeFractions
 pub mod Inverse
@@ -10,6 +11,7 @@ pub mod WholePowers
 pub mod CrossMultiplication
 pub mod Bounds
 pub mod Near
+pub mod RoundingErrors
 pub mod Quotients
 pub mod Roots
 pub mod FractionRoots

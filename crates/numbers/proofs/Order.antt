@@ -4,13 +4,13 @@ use mathlib.Core.Path.{_≡_, refl, sym, _∙_, ap, subst}
 use mathlib.Core.HLevel.{Π-prop}
 use mathlib.Core.Bool.{Bool, true, false, not}
 use mathlib.Core.Quot.{Quot·sound, Quot-set, ind}
-use Prim.Native.Nat.{suc, _≤_}
+use Prim.Native.Nat.{suc}
 use native.Mathlib.Nat.{zero-mul}
 use lib.Dec.{T, T-prop, T-not, not-T}
 use lib.IntN.{ℤ, pos, _*ℤ_}
-use lib.Signed.{nonNeg}
 use Rattle.numbers.specs.Solver.{_:+_, _:-_, _:*_, :-_, _:=_}
-use Rattle.numbers.specs.Ratios.{Ratio, denominator, leᴿ, eqᴿ, posᴿ, nonnegᴿ, _+ᴿ_, -ᴿ_, _over_}
+use Rattle.numbers.specs.Ratios.{Ratio, denominator, nonnegᴿ, _+ᴿ_, -ᴿ_, _over_}
+use Rattle.numbers.proofs.RatioTests.{leᴿ, eqᴿ, posᴿ}
 use Rattle.numbers.specs.Congruence.{nonNeg-mul}
 use Rattle.numbers.specs.Fractions.{ℚ, fraction, fromℤ, _+ℚ_, _*ℚ_, -ℚ_, _-ℚ_, inverse, nonneg, _≤ℚ_, _<ℚ_}
 use Rattle.numbers.proofs.FractionSolver.{ringℚ, _#_, fraction-sum, fraction-negation, fraction-zero}

@@ -1,7 +1,7 @@
 -- The three whole quotients of the step sheet lie as near to the exact one as specs/Rounding.antt says: each leaves a remainder that is
 -- bounded by the divisor. A factor that dividend and divisor share leaves `÷0` as it is. Assumes nothing.
-use mathlib.Core.Path.{_≡_, refl, sym, _∙_, ap}
-use Prim.Native.Nat.{ℕ, zero, suc, _+_, _*_, _/_, _%_, _<_, zero-le, suc-le-suc}
+use mathlib.Core.Path.{_≡_, sym, _∙_, ap}
+use Prim.Native.Nat.{ℕ, zero, suc, _*_, _/_, _%_, _<_, zero-le, suc-le-suc}
 use native.Mathlib.Nat.{div-add-mod', mod-lt, le-of-lt, mul-pos}
 use native.Mathlib.Numerals.{add-one}
 use lib.Dec.{ltb→lt, lt→ltb, le→leb, lit<}
@@ -12,7 +12,7 @@ use Rattle.numbers.specs.Solver.{con, _:+_, _:-_, _:*_, :-_, _:=_}
 use Rattle.numbers.specs.IntegerSolver.{ringℤ}
 use Rattle.numbers.specs.Ratios.{_over_, -ᴿ_}
 use Rattle.numbers.specs.Fractions.{ℚ, fraction, fromℤ, _/ℚ_, _+ℚ_, _*ℚ_, -ℚ_, _-ℚ_, inverse, _÷ℚ_, _<ℚ_, Near, _≤ℚ_}
-use Rattle.numbers.specs.Rounding.{Rounds, downError, towardZeroError, nearestError}
+use Rattle.numbers.proofs.RoundingErrors.{Rounds, downError, towardZeroError, nearestError}
 use Rattle.numbers.proofs.IntegerOrder.{nonneg-addℤ, gapℤ, from-gapℤ}
 use Rattle.numbers.proofs.FractionSolver.{ringℚ, from-multipleℚ, _#_}
 use Rattle.numbers.proofs.Order.{nonneg-mul, nonneg-ratio, gap, from-gap, ≤ℚ-trans, ≤ℚ-eq, <ℚ-≤ℚ-trans, <ℚ-ratio, nonneg-add, <ℚ-irrefl}

@@ -8,9 +8,10 @@ use lib.Dec.{T, ltb}
 use lib.IntN.{ℤ, pos, negℤ, _+ℤ_, _-ℤ_, _*ℤ_}
 use lib.Signed.{_≤ℤ_}
 use Rattle.numbers.specs.Solver.{_:+_, _:-_, _:*_, :-_, _:=_}
-use Rattle.numbers.specs.Ratios.{Ratio, _over_, _+ᴿ_, _*ᴿ_, -ᴿ_, nonnegᴿ, leᴿ, eqᴿ}
+use Rattle.numbers.specs.Ratios.{Ratio, _over_, _+ᴿ_, _*ᴿ_, -ᴿ_, nonnegᴿ}
+use Rattle.numbers.proofs.RatioTests.{leᴿ, eqᴿ}
 use Rattle.numbers.specs.Fractions.{ℚ, fraction, fromℤ, _+ℚ_, _*ℚ_, -ℚ_, _-ℚ_, inverse, _≤ℚ_, absℚ, Near}
-use Rattle.numbers.specs.Rounding.{Rounds}
+use Rattle.numbers.proofs.RoundingErrors.{Rounds}
 use Rattle.numbers.proofs.FractionSolver.{ringℚ, from-multipleℚ, _#_, fraction-sum, fraction-product, fraction-negation}
 use Rattle.numbers.proofs.Order.{nonneg-mul, nonneg-ratio, ≤ℚ-ratio, ≡-ratio, ≤ℚ-eq, ≤ℚ-trans, ≤ℚ-antisym, *ℚ-mono}
 use Rattle.numbers.proofs.WholeFractions.{nonneg-ℕ, fromℤ-add, fromℤ-mul, fromℤ-neg, fromℤ-mono}

@@ -6,7 +6,8 @@ use lib.IntN.{ℤ, pos}
 use lib.Signed.{ltZ, leZ}
 use Rattle.numbers.specs.Whole.{at-leastℤ, at-mostℤ}
 use Rattle.numbers.specs.Solver.{_:-_, _:*_, :-_, _:=_}
-use Rattle.numbers.specs.Ratios.{Ratio, posᴿ}
+use Rattle.numbers.specs.Ratios.{Ratio}
+use Rattle.numbers.proofs.RatioTests.{posᴿ}
 use Rattle.numbers.specs.Fractions.{ℚ, fraction, fromℤ, _*ℚ_, -ℚ_, _-ℚ_, inverse, nonneg, _<ℚ_, at-leastℚ, at-mostℚ}
 use Rattle.numbers.specs.Congruence.{bool-equal}
 use Rattle.numbers.proofs.FractionSolver.{ringℚ, from-multipleℚ, _#_}

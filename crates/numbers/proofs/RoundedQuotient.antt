@@ -6,11 +6,12 @@ use lib.Dec.{T, lt→ltb}
 use lib.IntN.{ℤ, pos, negsuc}
 use lib.Signed.{_<ℤ_}
 use Rattle.numbers.specs.Solver.{_:+_, _:-_, _:*_, :-_, _:=_}
-use Rattle.numbers.specs.Ratios.{Ratio, _+ᴿ_, _*ᴿ_, -ᴿ_, inverseᴿ, nonnegᴿ, eqᴿ, posᴿ}
-use Rattle.numbers.specs.Fractions.{ℚ, fraction, fromℤ, _+ℚ_, _*ℚ_, -ℚ_, _-ℚ_, inverse, _÷ℚ_, nonneg, _≤ℚ_, _<ℚ_, Near}
-use Rattle.numbers.specs.Rounding.{Rounds}
+use Rattle.numbers.specs.Ratios.{Ratio, _+ᴿ_, _*ᴿ_, -ᴿ_, inverseᴿ, nonnegᴿ}
+use Rattle.numbers.proofs.RatioTests.{eqᴿ, posᴿ}
+use Rattle.numbers.specs.Fractions.{ℚ, fraction, fromℤ, _+ℚ_, _*ℚ_, -ℚ_, _-ℚ_, inverse, _÷ℚ_, _≤ℚ_, _<ℚ_, Near}
+use Rattle.numbers.proofs.RoundingErrors.{Rounds}
 use Rattle.numbers.proofs.FractionSolver.{ringℚ, from-multipleℚ, _#_, fraction-sum, fraction-product, fraction-negation}
-use Rattle.numbers.proofs.Order.{nonneg-ratio, from-gap, ≡-ratio, <ℚ-ratio, ≤ℚ-eq, ≤ℚ-trans, <ℚ-≤ℚ, <ℚ-≤ℚ-trans, <ℚ-irrefl, *ℚ-mono}
+use Rattle.numbers.proofs.Order.{nonneg-ratio, from-gap, ≡-ratio, <ℚ-ratio, ≤ℚ-eq, ≤ℚ-trans, <ℚ-≤ℚ-trans, <ℚ-irrefl, *ℚ-mono}
 use Rattle.numbers.proofs.WholeFractions.{fromℤ-mono}
 use Rattle.numbers.proofs.Inverse.{*ℚ-inverse, fraction-inverse}
 use Rattle.numbers.proofs.Bounds.{Bounded, bounded-weaken, bounded-quotient, bound-nonneg}

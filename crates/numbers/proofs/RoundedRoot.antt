@@ -4,10 +4,11 @@ use Prim.Native.Nat.{ℕ, _+_, _*_}
 use native.Mathlib.Nat.{le-of-lt}
 use lib.Dec.{T}
 use lib.IntN.{pos}
-use Rattle.numbers.specs.Whole.{WholeRoot}
+use Rattle.numbers.specs.Root.{WholeRoot}
 use Rattle.numbers.specs.Solver.{_:+_, _:-_, _:*_, _:^_, :-_, _:=_}
-use Rattle.numbers.specs.Ratios.{Ratio, _+ᴿ_, _*ᴿ_, nonnegᴿ, leᴿ, eqᴿ}
-use Rattle.numbers.specs.Fractions.{ℚ, fraction, fromℤ, _+ℚ_, _*ℚ_, -ℚ_, _-ℚ_, _^ℚ_, nonneg, _≤ℚ_}
+use Rattle.numbers.specs.Ratios.{Ratio, _+ᴿ_, _*ᴿ_, nonnegᴿ}
+use Rattle.numbers.proofs.RatioTests.{leᴿ, eqᴿ}
+use Rattle.numbers.specs.Fractions.{ℚ, fraction, fromℤ, _+ℚ_, _*ℚ_, -ℚ_, _-ℚ_, _^ℚ_, _≤ℚ_}
 use Rattle.numbers.specs.Rounding.{RootOf}
 use Rattle.numbers.proofs.FractionSolver.{ringℚ, _#_, fraction-sum, fraction-product}
 use Rattle.numbers.proofs.Order.{NonNeg, nonneg-mul, nonneg-eq, nonneg-add, nonneg-ratio, gap, from-gap, ≤ℚ-ratio, ≡-ratio, ≤ℚ-eq, ≤ℚ-refl, ≤ℚ-trans, +ℚ-mono, *ℚ-mono}

@@ -4,7 +4,8 @@ use mathlib.Core.Bool.{Bool, true, false, not}
 use Prim.Native.Nat.{ℕ, suc, _≤_, _<_}
 use lib.Dec.{T, T-not, leb, leb→le, nleb→lt}
 use lib.IntN.{pos}
-use Rattle.numbers.specs.Ratios.{Ratio, _over_, _+ᴿ_, _*ᴿ_, nonnegᴿ, leᴿ}
+use Rattle.numbers.specs.Ratios.{Ratio, _over_, _+ᴿ_, _*ᴿ_, nonnegᴿ}
+use Rattle.numbers.proofs.RatioTests.{leᴿ}
 use Rattle.numbers.specs.Fractions.{ℚ, fraction, _≤ℚ_}
 use Rattle.numbers.proofs.FractionSolver.{fraction-sum, fraction-product}
 use Rattle.numbers.proofs.Order.{nonneg-ratio, ≤ℚ-test, ≤ℚ-eq, ≤ℚ-trans, *ℚ-mono}

@@ -7,7 +7,8 @@ use native.Mathlib.Omega.{arith}
 use lib.Dec.{T, T-not, not-T}
 use lib.IntN.{pos}
 use Rattle.numbers.specs.Solver.{_:+_, _:-_, _:*_, :-_, _:=_}
-use Rattle.numbers.specs.Ratios.{Ratio, _over_, _*ᴿ_, eqᴿ}
+use Rattle.numbers.specs.Ratios.{Ratio, _over_, _*ᴿ_}
+use Rattle.numbers.proofs.RatioTests.{eqᴿ}
 use Rattle.numbers.specs.Fractions.{ℚ, fraction, fromℤ, _+ℚ_, _*ℚ_, -ℚ_, _-ℚ_, inverse, nonneg, _<ℚ_}
 use Rattle.numbers.proofs.FractionSolver.{ringℚ, from-multipleℚ, _#_, fraction-product}
 use Rattle.numbers.proofs.Order.{NonNeg, nonneg-mul, nonneg-eq, from-gap, ≡-ratio, <ℚ-ratio, <ℚ-≤ℚ-trans}

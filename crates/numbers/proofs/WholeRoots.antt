@@ -6,7 +6,8 @@ use native.Mathlib.Nat.{mul-le-mul}
 use native.Mathlib.Omega.{arith}
 use lib.Dec.{T, leb, leb→le, nleb→lt}
 use lib.IntN.{pos}
-use Rattle.numbers.specs.Whole.{rootUpTo, wholeRoot, WholeRoot}
+use Rattle.numbers.specs.Whole.{rootUpTo, wholeRoot}
+use Rattle.numbers.specs.Root.{WholeRoot}
 
 -- a² ≤ n ≤ b², or n below b + 1 squared: a ≤ b
 pub root-le : (a b n : ℕ) → a * a ≤ n → n < (b + 1) * (b + 1) → a ≤ b

@@ -10,3 +10,4 @@ pub mod Ratios
 pub mod Congruence
 pub mod Fractions
 pub mod Rounding
+pub mod Root

@@ -1,11 +1,10 @@
 -- Ratios of whole numbers as one writes them, a numerator over a denominator above 0, with the operations that one learns at school. All of it
 -- computes, so that a test of ratios is answered by `tt`. Assumes nothing.
 use mathlib.Core.Path.{_≡_}
-use mathlib.Core.Bool.{Bool, not}
+use mathlib.Core.Bool.{Bool}
 use Prim.Native.Nat.{ℕ, zero, suc, pred, _+_, _*_}
 use lib.IntN.{ℤ, pos, negsuc, negℤ, _+ℤ_, _*ℤ_}
 use lib.Signed.{nonNeg}
-use Rattle.numbers.specs.IntegerSolver.{is-zero}
 
 infixl 6 _+ᴿ_
 infixl 7 _*ᴿ_
@@ -54,15 +53,6 @@ inverseᴿ a = reciprocal (a .numerator) (a .denominator-1)
 abbrev pub Same : Ratio → Ratio → Type 0
 Same a b = a .numerator *ℤ denominator b ≡ b .numerator *ℤ denominator a
 
--- tests of ratios: not below 0, at most, equal, above 0
+-- not below 0
 abbrev pub nonnegᴿ : Ratio → Bool
 nonnegᴿ a = nonNeg (a .numerator)
-
-abbrev pub leᴿ : Ratio → Ratio → Bool
-leᴿ a b = nonnegᴿ (b +ᴿ -ᴿ a)
-
-abbrev pub eqᴿ : Ratio → Ratio → Bool
-eqᴿ a b = is-zero ((a +ᴿ -ᴿ b) .numerator)
-
-abbrev pub posᴿ : Ratio → Bool
-posᴿ a = not (leᴿ a (0 over 1))

@@ -1,6 +1,6 @@
 -- Whole-number arithmetic as the step sheet writes it. Assumes nothing.
 use mathlib.Core.Bool.{cond}
-use Prim.Native.Nat.{ℕ, zero, suc, _+_, _*_, _≤_, _<_}
+use Prim.Native.Nat.{ℕ, zero, suc, _*_}
 use lib.Dec.{leb}
 use lib.IntN.{ℤ, pos, negsuc, negℤ, _+ℤ_, _*ℤ_}
 use lib.Signed.{ltZ, quotZ, shrZ}
@@ -36,8 +36,3 @@ rootUpTo n (suc k) = cond (leb (suc k * suc k) n) (suc k) (rootUpTo n k)
 unfoldable pub wholeRoot : ℤ → ℤ
 wholeRoot (pos n) = pos (rootUpTo n n)
 wholeRoot (negsuc n) = pos 0
-
--- what it is for r to be the whole square root of n, down
-pub record WholeRoot (n r : ℕ) : Type 0 where
-  pub low : r * r ≤ n
-  pub high : n < (r + 1) * (r + 1)

@@ -3,7 +3,8 @@ ghost use mathlib.Core.Path.{_≡_};
 ghost use Prim.Native.Nat.{_^_, _≤_, _<_};
 ghost use lib.IntN.{pos};
 ghost use lib.Signed.{_≤ℤ_, _<ℤ_};
-ghost use Rattle.numbers.specs.Whole.{_÷↓_, _÷0_, WholeRoot};
+ghost use Rattle.numbers.specs.Whole.{_÷↓_, _÷0_};
+ghost use Rattle.numbers.specs.Root.{WholeRoot};
 
 // a / b with the fraction dropped toward zero: every step that the sheet marks ÷0.
 pub fn toward_zero(a: i64, b: i64) -> i64

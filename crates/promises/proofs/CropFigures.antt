@@ -8,17 +8,17 @@ use Rattle.crops.specs.Crop.{badCrop, cropFigure}
 use Rattle.crops.specs.declared.Crop.{Crop}
 use Rattle.crops.proofs.CropBound.{crop-within-bound, crop-within-proved}
 use Rattle.crops.proofs.CropFigure.{twice-most}
-use Rattle.day.specs.Bound.{Within, WithinBound, provedBound, FigureOwed, JudgesWithinBound}
+use Rattle.day.specs.Bound.{Within, WithinBound, FigureOwed, JudgesWithinBound}
+use Rattle.day.proofs.DayBound.{provedBound, judged-within-bound, judged-within-proved}
 use Rattle.day.specs.Judgement.{asJudged, withMark, judged}
 use Rattle.day.specs.declared.Day.{Day}
 use Rattle.day.specs.declared.Earlier.{Earlier}
 use Rattle.day.specs.declared.Station.{Station}
 use Rattle.day.specs.declared.Verdict.{Verdict}
-use Rattle.day.proofs.DayBound.{judged-within-bound, judged-within-proved}
 use Rattle.day.proofs.Marks.{either-way}
 use Rattle.answers.specs.Answers.{valueOf, dayAnswer, answerBytes}
 use Rattle.answers.specs.declared.Answer.the-variants as answer
-use Rattle.promises.specs.CropFigures.{CropDay, CropFigureAt, CropFiguresOwed, EveryCropFigure}
+use Rattle.promises.specs.CropFigures.{CropDay, CropFigureAt, CropFiguresOwed}
 use Rattle.promises.specs.Demand.{AnsweredLog, NotRefused, FiguresOwed}
 use Rattle.log.specs.Log.{Planted, planted, cropAnswer, cropAnswers, bufferAfter, Read}
 use Rattle.log.specs.declared.Outcome.{Outcome}
@@ -26,6 +26,10 @@ use Rattle.promises.proofs.Days.{answer-at, crop-answer-at}
 use Rattle.promises.proofs.Demand.{marked-bytes, answered, not-refused, log-within-bound}
 use Rattle.log.proofs.SoundStation.{station-constants}
 use Rattle.promises.proofs.Stations.{station-sound, crop-faultless}
+
+-- the promise: `read` gives the buffer that a reader leaves, of the log and of the buffer lent
+unfoldable pub EveryCropFigure : (List ℕ → List ℕ → List ℕ) → Type 0
+EveryCropFigure read = (s buffer : List ℕ) → CropFiguresOwed s buffer (read s buffer)
 
 -- a mark hides no figure
 one-figure : (x : Day) {n m : ℕ} → withMark x n ≡ withMark x m → n ≡ m

@@ -8,7 +8,8 @@ use Rattle.answers.specs.Answers.{bytesOf}
 use Rattle.promises.specs.Days.{DayAt}
 use Rattle.log.specs.History.{goodDate, earlierMeans}
 use Rattle.log.specs.Log as log
-use Rattle.log.specs.Log.{BlockRead, answersOf, accepted, readingOf, entriesOf}
+use Rattle.log.specs.Log.{BlockRead, answersOf, accepted, readingOf}
+use Rattle.log.specs.Parts.{entriesOf}
 
 -- record n of a log is the day x of the block b, and its answer stands at `place`: what there is to compute
 unfoldable pub day-there : (s : List ℕ) (n : ℕ) (b : BlockRead) (x : Day) {place : ℕ}

@@ -1,7 +1,7 @@
 -- What is known of a day record of a log: its answer stands at its place (`answer-at`), and its crop's figure behind it (`crop-answer-at`). Assumes
 -- nothing.
 use mathlib.Core.Path.{_≡_, refl, sym, ap, _∙_}
-use mathlib.Core.Bool.{Bool, true}
+use mathlib.Core.Bool.{Bool, true, cond}
 use mathlib.Core.List.{List, [], _∷_, _++_, append-assoc, append-nil}
 use Prim.Native.Nat.{ℕ, _+_}
 use native.Mathlib.Omega.{arith}
@@ -12,13 +12,20 @@ use Rattle.day.specs.declared.Earlier.{Earlier}
 use Rattle.day.specs.declared.Station.{Station}
 use Rattle.day.specs.declared.Verdict.{Verdict}
 use Rattle.answers.specs.Answers.{dayAnswer, answerBytes, bytesOf}
-use Rattle.promises.specs.Days.{DayAt, verdictAt}
+use Rattle.promises.specs.Days.{DayAt}
 use Rattle.log.specs.History.{verdictOf}
 use Rattle.log.specs.Log.{day, cropAnswers, answersOf, outcomeOf, bufferAfter}
 use Rattle.log.specs.declared.Outcome.the-variants.{Written}
 use Rattle.answers.specs.declared.Answer.{Answer}
 use Rattle.log.proofs.Means.{good-date}
 use Rattle.promises.proofs.RecordPlaces.{part-at, rest, about-record}
+use Rattle.day.specs.Judgement.{judged}
+use Rattle.day.specs.declared.Refusal.the-variants.{BadDate}
+use Rattle.day.specs.declared.Verdict.the-variants.{Refused}
+
+-- the verdict in its answer: 6, or that of the judgement
+abbrev pub verdictAt : Station → Day → Earlier → Bool → Verdict
+verdictAt station x earlier good = cond good (judged station x earlier) (Refused BadDate)
 
 -- ---- a day record
 

@@ -12,8 +12,8 @@ use lib.ListN.{length, take, drop}
 use Rattle.answers.specs.Answers.{bytesOf}
 use Rattle.answers.specs.declared.Answer.{Answer}
 use Rattle.answers.proofs.Bytes.{bytes-append, bytes-longer}
-use Rattle.log.specs.Log.{Entry, unopened, pastAll, answersOf, answersAtEnd, allAnswers, answersIn, Reading, refused, accepted, readingOf, entriesOf}
-use Rattle.log.specs.Log.{fitted, settled, longest, outcomeOf, leaves, bufferAfter}
+use Rattle.log.specs.Log.{Entry, unopened, pastAll, answersOf, answersAtEnd, allAnswers, answersIn, Reading, refused, accepted, readingOf, fitted, settled, longest, outcomeOf, leaves, bufferAfter}
+use Rattle.log.specs.Parts.{entriesOf}
 use Rattle.log.specs.declared.Outcome.{Outcome}
 use Rattle.log.specs.declared.Outcome.the-variants.{Written, Refused}
 use Rattle.log.proofs.OutcomeSize.{numberIn}

@@ -8,7 +8,8 @@ use Rattle.crops.specs.declared.Crop.{Crop}
 use Rattle.day.specs.declared.Day.{Day}
 use Rattle.day.specs.declared.Earlier.{Earlier}
 use Rattle.day.specs.declared.Station.{Station}
-use Rattle.log.specs.Log.{planted, Reading, day, entriesOf}
+use Rattle.log.specs.Log.{planted, Reading, day}
+use Rattle.log.specs.Parts.{entriesOf}
 use Rattle.log.proofs.Laws.{KeptBlock, Kept}
 use Rattle.log.proofs.Planted.{PlantedSound}
 use Rattle.log.proofs.SoundRecords.{SoundEntries, sound-at, sound-reading}

@@ -24,13 +24,13 @@ use Rattle.answers.specs.declared.Answer.{Answer}
 use Rattle.answers.specs.declared.Answer.the-variants as answer
 use Rattle.records.specs.Bytes.{wordAt, signedOf, signedAt}
 use Rattle.records.specs.Record.{stationAt, dayAt, cropAt, recordAt}
-use Rattle.promises.specs.CropFigures.{CropDay, CropFigureAt, CropFiguresOwed, EveryCropFigure}
+use Rattle.promises.specs.CropFigures.{CropDay, CropFigureAt, CropFiguresOwed}
+use Rattle.promises.proofs.CropFigures.{EveryCropFigure, crop-figures-met}
 use Rattle.promises.specs.Demand.{AnsweredLog, AnsweredDay}
 use Rattle.log.specs.History.{daysBefore, goodDate, counted, earlierMeans, verdictOf}
 use Rattle.log.specs.Log.{bare, planted, cropAnswers, answersTo, readFrom, readingOf, outcomeOf, leaves, bufferAfter}
 use Rattle.log.specs.declared.Outcome.the-variants as outcome
 use Rattle.promises.proofs.WithoutKind.{foundWithout, readWithout, readingWithout, Without}
-use Rattle.promises.proofs.CropFigures.{crop-figures-met}
 use Rattle.log.proofs.Sample.{sample, station, windless, beans, lidw, missing, noMean, oneMean, twoMeans}
 use Rattle.promises.proofs.DayThere.{day-there}
 

@@ -26,13 +26,14 @@ use Rattle.answers.specs.declared.Answer.{Answer}
 use Rattle.answers.specs.declared.Answer.the-variants as answer
 use Rattle.records.specs.Bytes.{wordAt, signedOf, signedAt}
 use Rattle.records.specs.Record.{stationAt, dayAt, cropAt, recordAt}
-use Rattle.promises.specs.CropFigures.{CropDay, CropFigureAt, CropFiguresOwed, EveryCropFigure}
+use Rattle.promises.specs.CropFigures.{CropDay, CropFigureAt, CropFiguresOwed}
+use Rattle.promises.proofs.CropFigures.{EveryCropFigure, crop-figures-met}
 use Rattle.promises.specs.Days.{DayAt}
 use Rattle.promises.specs.Demand.{AnsweredLog, FigureAt, FiguresOwed}
 use Rattle.log.specs.History.{daysBefore, goodDate, counted, earlierMeans, verdictOf}
-use Rattle.log.specs.Log.{planted, cropAnswers, answersTo, readFrom, readingOf, entriesOf, outcomeOf, leaves, bufferAfter}
+use Rattle.log.specs.Log.{planted, cropAnswers, answersTo, readFrom, readingOf, outcomeOf, leaves, bufferAfter}
+use Rattle.log.specs.Parts.{entriesOf}
 use Rattle.log.specs.declared.Outcome.the-variants as outcome
-use Rattle.promises.proofs.CropFigures.{crop-figures-met}
 use Rattle.promises.proofs.Demand.{log-within-bound}
 use Rattle.promises.proofs.WithoutSubstitute.{verdictStrictly, allStrictly, outcomeStrictly, bufferStrictly}
 use Rattle.log.proofs.Sample.{sample, station, windless, beans, lidw, missing, noMean, oneMean, twoMeans}

@@ -23,7 +23,8 @@ use Rattle.records.specs.Record.{stationAt, limitedStationAt, dayAt, recordAt}
 use Rattle.promises.specs.Demand.{AnsweredLog, AnsweredDay, FigureAt, FiguresOwed}
 use Rattle.log.specs.History.{daysBefore, goodDate, counted, earlierMeans, verdictOf}
 use Rattle.promises.proofs.LimitedStations.{StationThere}
-use Rattle.log.specs.Log.{bare, answersTo, readFrom, readingOf, entriesOf, outcomeOf, leaves, bufferAfter}
+use Rattle.log.specs.Log.{bare, answersTo, readFrom, readingOf, outcomeOf, leaves, bufferAfter}
+use Rattle.log.specs.Parts.{entriesOf}
 use Rattle.promises.proofs.WithoutKind.{foundWithout, readWithout, readingWithout, Without}
 use Rattle.log.specs.declared.Outcome.the-variants as outcome
 use Rattle.promises.proofs.Demand.{log-within-bound}

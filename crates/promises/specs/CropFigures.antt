@@ -40,7 +40,3 @@ unfoldable pub CropFiguresOwed : List ℕ → List ℕ → List ℕ → Type 0
 CropFiguresOwed s buffer after =
     AnsweredLog s buffer →
     (i place : ℕ) (st : Station) (x : Day) (earlier : Earlier) (c : Crop) → CropDay s i st x earlier place c → CropFigureAt st x earlier place c after
-
--- the promise: `read` gives the buffer that a reader leaves, of the log and of the buffer lent
-unfoldable pub EveryCropFigure : (List ℕ → List ℕ → List ℕ) → Type 0
-EveryCropFigure read = (s buffer : List ℕ) → CropFiguresOwed s buffer (read s buffer)

@@ -1,16 +1,12 @@
 -- A day record of a log: its station, its earlier means, and the place of its answer. Assumes nothing.
-use mathlib.Core.Bool.{Bool, cond}
+use mathlib.Core.Bool.{Bool}
 use mathlib.Core.List.{List, _∷_, _++_}
 use mathlib.Core.Path.{_≡_}
 use Prim.Native.Nat.{ℕ}
 use lib.ListN.{length}
-use Rattle.day.specs.Judgement.{judged}
 use Rattle.day.specs.declared.Day.{Day}
 use Rattle.day.specs.declared.Earlier.{Earlier}
-use Rattle.day.specs.declared.Refusal.the-variants.{BadDate}
 use Rattle.day.specs.declared.Station.{Station}
-use Rattle.day.specs.declared.Verdict.{Verdict}
-use Rattle.day.specs.declared.Verdict.the-variants.{Refused}
 use Rattle.answers.specs.Answers.{bytesOf}
 use Rattle.log.specs.History.{goodDate, earlierMeans}
 use Rattle.log.specs.Log.{BlockRead, Entry, day, accepted, readingOf, answersOf}
@@ -27,7 +23,3 @@ pub record DayAt (s : List ℕ) (i : ℕ) (station : Station) (x : Day) (earlier
   pub means : earlier ≡ earlierMeans (block .days) x
   pub dated : good ≡ goodDate (block .days) x
   pub behind : place ≡ length (bytesOf (answersOf before))
-
--- the verdict in its answer: 6, or that of the judgement
-abbrev pub verdictAt : Station → Day → Earlier → Bool → Verdict
-verdictAt station x earlier good = cond good (judged station x earlier) (Refused BadDate)

@@ -6,7 +6,8 @@ use native.Mathlib.Nat.{div-le-of-le-mul}
 use native.Mathlib.Omega.{arith}
 use lib.IntN.{ℤ, pos, negsuc, natAbs, _*ℤ_, _-ℤ_}
 use borrow.Author.Tests.{ltb-false}
-use Rattle.numbers.specs.Whole.{_÷0_, wholeRoot, WholeRoot}
+use Rattle.numbers.specs.Whole.{_÷0_, wholeRoot}
+use Rattle.numbers.specs.Root.{WholeRoot}
 use Rattle.numbers.specs.Ranges.{InRange, from_to_}
 use Rattle.numbers.proofs.RangeArithmetic.{wider}
 use Rattle.numbers.proofs.WholeRoots.{root-is}

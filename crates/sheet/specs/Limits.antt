@@ -26,9 +26,6 @@ clearMinimum = from 50 to 200
 abbrev pub elevation : Range
 elevation = from 0 to 3_000
 
--- `d` in its longest year, and a signed number of two bytes
-abbrev pub dayOfYear : Range
-dayOfYear = from 1 to 366
-
+-- a signed number of two bytes
 abbrev pub signedWord : Range
 signedWord = minus 32_768 to 32_767

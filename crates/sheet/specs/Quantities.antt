@@ -2,7 +2,11 @@
 -- the documents'; the others are wide enough for what the readings can give, and no wider than the arithmetic needs. Assumes nothing.
 use Prim.Native.Nat.{ℕ}
 use Rattle.numbers.specs.Ranges.{Range, from_to_, minus_to_}
-pub use Rattle.sheet.specs.Limits.{temperature, radiation, wind, routineLimit, windLimit, clearMinimum, dayOfYear, signedWord}
+pub use Rattle.sheet.specs.Limits.{temperature, radiation, wind, routineLimit, windLimit, clearMinimum, signedWord}
+
+-- `d` in its longest year
+abbrev pub dayOfYear : Range
+dayOfYear = from 1 to 366
 
 -- ---- the earlier means: their number and their sum
 

@@ -1,27 +1,67 @@
 -- The published formulas' own values are within half a unit of the tables' entries: `own-values-within`. Where the ratio is 1 the 5.257 power is a
 -- fraction (`sea-level-power`), so that what is said of such powers is said of some. Assumes nothing.
 use mathlib.Core.Path.{_≡_, sym, _∙_, ap}
-use Prim.Native.Nat.{ℕ, _+_, _*_, _-_, _^_, _≤_}
+use Prim.Native.Nat.{ℕ, _+_, _*_, _-_, _^_, _≤_, suc}
 use native.Mathlib.Nat.{le-of-lt}
 use native.Mathlib.Omega.{arith}
 use lib.Dec.{lit<}
 use Rattle.numbers.specs.Solver.{_:+_, _:-_, _:*_, :-_, _:=_}
 use Rattle.numbers.specs.Ratios.{_over_}
-use Rattle.numbers.specs.Fractions.{ℚ, _/ℚ_, _+ℚ_, _-ℚ_, _*ℚ_, _^ℚ_, _≤ℚ_}
+use Rattle.numbers.specs.Fractions.{ℚ, _/ℚ_, _+ℚ_, _-ℚ_, _*ℚ_, _^ℚ_, _≤ℚ_, fromℤ}
 use Rattle.numbers.proofs.FractionSolver.{ringℚ, _#_}
 use Rattle.numbers.proofs.Order.{nonneg-mul, nonneg-ratio, nonneg-of, of-nonneg, gap, from-gap, ≤ℚ-ratio, ≤ℚ-eq, ≤ℚ-trans}
 use Rattle.numbers.proofs.WholeFractions.{nonneg-ℕ, fromℕ-mono}
 use Rattle.numbers.proofs.StrictOrder.{whole}
 use Rattle.numbers.proofs.FractionPowers.{power-one, power-cancel, powers-at-most}
-use Rattle.tables.specs.Series.{Formula, NearestOfSeries, HalfUnit}
-use Rattle.tables.specs.Tables.{AlbedoEntry, tenthPascal, pressureRatio}
-use Rattle.tables.specs.Values.{ratioNumerator, ratioDenominator, seaLevel, pressureAt}
-use Rattle.tables.specs.OwnValues.{SeriesWithin, IsPower, EnclosePower, kilopascals, PressureWithin, OwnValuesWithin}
+use Rattle.tables.specs.Series.{Formula, NearestOfSeries, HalfUnit, partialSum, Between}
+use Rattle.tables.specs.Tables.{AlbedoEntry, tenthPascal, pressureRatio, billionth, IsPi, albedoFormula, a1Formula, awFormula, bwFormula}
+use Rattle.tables.specs.Values.{ratioNumerator, ratioDenominator, seaLevel, pressureAt, albedoAt, a1At, awAt, bwAt}
 use Rattle.tables.proofs.Nearest.{nearest-half}
 use Rattle.tables.proofs.DayRules.{albedo-values, a1-values, aw-values, bw-values}
 use Rattle.tables.proofs.PressureEntries.{ratio-is, doubled, half-less, half-more}
 use Rattle.tables.proofs.PressureValues.{pressure-low, pressure-high}
 use Rattle.tables.proofs.ValueRanges.{pressure-in}
+use lib.IntN.{pos}
+
+-- f(s) is within half a unit of r units. "exp(-x) and sin x are the numbers that lie between any two consecutive partial sums": two of these sums
+-- enclose s, and f of every number between them, ends included, is within half a unit.
+pub record SeriesWithin (unit : ℚ) (r : ℕ) (f : Formula) : Type 0 where
+  pub place : ℕ
+  pub within : (s : ℚ) → Between (partialSum (f .terms) place) (partialSum (f .terms) (suc place)) s → HalfUnit unit r (f .at s)
+
+-- "The 5.257 power of a fraction is the number whose thousandth power is the fraction's 5,257th": z is that power of x
+pub record IsPower (x z : ℚ) : Type 0 where
+  pub from-zero : fromℤ (pos 0) ≤ℚ z
+  pub power : z ^ℚ 1000 ≡ x ^ℚ 5257
+
+-- "fractions proved to enclose it may carry the check": a and b enclose the 5.257 power of x
+pub record EnclosePower (x a b : ℚ) : Type 0 where
+  pub from-zero : fromℤ (pos 0) ≤ℚ a
+  pub ordered : a ≤ℚ b
+  pub below : a ^ℚ 1000 ≤ℚ x ^ℚ 5257
+  pub above : x ^ℚ 5257 ≤ℚ b ^ℚ 1000
+
+-- the pressure in kPa, z being the power: 1,013,000 z tenths of a pascal
+unfoldable pub kilopascals : ℚ → ℚ
+kilopascals z = 1013 /ℚ 10 *ℚ z
+
+-- The pressure at the ratio x is within half a unit of r units: two fractions enclose the power, and every fraction between them, ends included, gives
+-- such a pressure; so does the power itself, where it is a fraction.
+pub record PressureWithin (r : ℕ) (x : ℚ) : Type 0 where
+  pub low : ℚ
+  pub high : ℚ
+  pub enclose : EnclosePower x low high
+  pub within : (z : ℚ) → low ≤ℚ z → z ≤ℚ high → HalfUnit tenthPascal r (kilopascals z)
+  pub exact : (z : ℚ) → IsPower x z → HalfUnit tenthPascal r (kilopascals z)
+
+-- "α (albedo), a1, aw and bw are the day tables' formulas at `d`, unrounded; P is the pressure formula at E, in kPa": all five are within half a unit of
+-- the entries, the albedo for every π that the document's bounds allow
+pub record OwnValuesWithin : Type 0 where
+  pub albedo : (d : ℕ) → 1 ≤ d → d ≤ 366 → (π : ℚ) → IsPi π → SeriesWithin billionth (albedoAt d) (albedoFormula π d)
+  pub a1 : (d : ℕ) → 1 ≤ d → d ≤ 366 → SeriesWithin billionth (a1At d) (a1Formula d)
+  pub aw : (d : ℕ) → 1 ≤ d → d ≤ 366 → SeriesWithin billionth (awAt d) (awFormula d)
+  pub bw : (d : ℕ) → 1 ≤ d → d ≤ 366 → SeriesWithin billionth (bwAt d) (bwFormula d)
+  pub pressure : (e : ℕ) → e ≤ 3000 → PressureWithin (pressureAt e) (pressureRatio e)
 
 -- ---- the day tables
 

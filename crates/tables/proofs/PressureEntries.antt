@@ -10,7 +10,8 @@ use lib.Dec.{T, ltb, ltb→lt, lt→ltb, lit<}
 use lib.IntN.{pos}
 use lib.ListN.{length, getD}
 use Rattle.numbers.specs.Solver.{_:+_, _:-_, _:*_, _:=_}
-use Rattle.numbers.specs.Ratios.{Ratio, _over_, _*ᴿ_, eqᴿ}
+use Rattle.numbers.specs.Ratios.{Ratio, _over_, _*ᴿ_}
+use Rattle.numbers.proofs.RatioTests.{eqᴿ}
 use Rattle.numbers.specs.Ranges.{InRange, inRange}
 use Rattle.numbers.specs.Fractions.{ℚ, fraction, _+ℚ_, _*ℚ_, _-ℚ_}
 use Rattle.numbers.proofs.FractionSolver.{ringℚ, _#_}

@@ -11,10 +11,23 @@ use Rattle.answers.specs.ReadBack.{StandsAt}
 use Rattle.answers.specs.declared.Answer.{Answer}
 use Rattle.answers.proofs.Bytes.{bytes-append}
 use Rattle.totals.specs.Tally.{InMonthOrder}
-use Rattle.text.specs.Report.{aboutBlock, ownFrom, own, blockLines, linesOf}
-use Rattle.text.specs.Walk.{Holds, BlockOrdered, Stands, openAfter, seenAfter, aboutOpen, lineIn, printed, openLines, linesFrom}
+use Rattle.text.specs.Report.{aboutBlock, ownFrom, own, blockLines, linesOf, answerLines}
+use Rattle.text.specs.Walk.{Holds, BlockOrdered, Stands, openAfter, aboutOpen, lineIn, printed}
 use Rattle.text.specs.declared.walk.Open.{Open}
 use Rattle.text.specs.declared.walk.Open.the-variants.{NoBlock, In}
+
+abbrev pub seenAfter : List Answer → Role → Answer → List Answer
+seenAfter seen (opens code) a = []
+seenAfter seen (ofDay year d verdict) a = seen ++ a ∷ []
+seenAfter seen beside a = seen ++ a ∷ []
+
+-- what the block that is open has yet to print, with its answers `more`; and what all the answers from there on print
+abbrev pub openLines : Open → List Answer → List Answer → List ℕ
+openLines NoBlock seen more = []
+openLines (In b) seen more = answerLines (b .code) more ++ aboutBlock (b .code) (seen ++ more)
+
+abbrev pub linesFrom : Open → List Answer → List Answer → List ℕ
+linesFrom block seen left = openLines block seen (own left) ++ linesOf left
 
 -- what the open block prints where it ends, and with an answer more
 block-ends : (block : Open) (seen : List Answer) → openLines block seen [] ≡ aboutOpen block seen

@@ -9,11 +9,10 @@ use Rattle.answers.specs.Answers.{Role, opens, ofDay, beside, roleOf}
 use Rattle.answers.specs.declared.Answer.{Answer}
 use Rattle.day.specs.Calendar.{isDate}
 use Rattle.day.specs.declared.Verdict.the-variants.{Figure, Refused, Estimated}
-use Rattle.log.specs.DateOrder.{Next, FirstInOrder, InDateOrder}
+use Rattle.log.proofs.DateOrder.{Next, FirstInOrder, InDateOrder, in-date-order, by-number}
 use Rattle.log.specs.History.{dayNumber}
 use Rattle.log.specs.Log.{answersTo}
 use Rattle.day.proofs.Dates.{date-tells}
-use Rattle.log.proofs.DateOrder.{in-date-order, by-number}
 use Rattle.totals.specs.Months.{monthOf, yearAt, monthAt, months}
 use Rattle.totals.specs.Tally.{monthNumber, Comes, InMonthOrder}
 use Rattle.totals.specs.declared.tally.Counted.the-variants.{Day}

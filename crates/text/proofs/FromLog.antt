@@ -9,12 +9,14 @@ use lib.ListN.{length, drop}
 use borrow.Author.Tests.{ltb-false}
 use Rattle.answers.specs.Answers.{bytesOf}
 use Rattle.lines.specs.Text.{header}
-use Rattle.log.specs.Log.{longest, longestAnswers, answersTo, readingOf, settled, outcomeOf, leaves, bufferAfter, Read}
+use Rattle.log.specs.Log.{longest, answersTo, readingOf, settled, outcomeOf, leaves, bufferAfter, Read}
+use Rattle.log.specs.Parts.{longestAnswers}
 use Rattle.log.specs.declared.Outcome.{Outcome}
 use Rattle.log.specs.declared.Outcome.the-variants.{Written, Refused}
 use Rattle.log.proofs.OutcomeSize.{Small, outcome-small, written-size}
 use Rattle.records.proofs.Choice.{by-cond}
-use Rattle.text.specs.Report.{linesOf, textOf, reportOf, Prints, AreBytes}
+use Rattle.text.specs.Report.{linesOf, textOf, reportOf, Prints}
+use Rattle.text.proofs.SmallAnswers.{AreBytes}
 use Rattle.text.specs.Walk.{longestReport, Holds}
 use Rattle.text.specs.declared.Printed.{Printed}
 use Rattle.text.proofs.LongEnough.{text-most}

@@ -6,9 +6,9 @@ use Prim.Native.Nat.{ℕ}
 use Rattle.answers.specs.Answers.{Role, opens, ofDay, beside, roleOf}
 use Rattle.answers.specs.declared.Answer.{Answer}
 use Rattle.day.specs.declared.Code.{Code}
-use Rattle.totals.specs.Tally.{begun, said, InMonthOrder}
+use Rattle.totals.specs.Tally.{begun, InMonthOrder}
+use Rattle.totals.proofs.InTurn.{said, said-in-turn}
 use Rattle.totals.specs.declared.tally.Tally.{Tally}
-use Rattle.totals.proofs.InTurn.{said-in-turn}
 use Rattle.text.specs.Report.{answerLines, monthText, seasonText, aboutBlock, own, blockLines, linesOf}
 use Rattle.text.specs.Walk.{BlockOrdered, Ordered}
 

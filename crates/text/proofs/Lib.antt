@@ -11,6 +11,7 @@ pub mod DateOrder
 pub mod Sizes
 pub mod SmallAnswers
 pub mod LongEnough
+pub mod TotalsOwed
 pub mod Totals
 pub mod WorkedReport
 pub mod WorkedMonths

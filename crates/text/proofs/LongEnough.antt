@@ -14,20 +14,27 @@ use Rattle.day.specs.declared.Code.{Code}
 use Rattle.records.proofs.Choice.{by-cond}
 use Rattle.answers.specs.Answers.{bytesOf}
 use Rattle.answers.proofs.Roles.{count}
-use Rattle.log.specs.Log.{longest, longestAnswers, answersTo, readingOf, outcomeOf, settled}
+use Rattle.log.specs.Log.{longest, answersTo, readingOf, outcomeOf, settled}
+use Rattle.log.specs.Parts.{longestAnswers}
 use Rattle.log.specs.declared.Outcome.{Outcome}
 use Rattle.log.specs.declared.Outcome.the-variants as outcome
 use Rattle.log.proofs.Longest.{answers-most, lines-room}
 use Rattle.log.proofs.OutcomeSize.{Small, outcome-small, outcome-alike}
 use Rattle.totals.specs.Totals.{totalOf}
-use Rattle.text.specs.Totals.{BlockOf}
-use Rattle.text.specs.Report.{own, linesOf, textOf, reportOf, wholeReport, AreBytes, LongEnough}
-use Rattle.text.specs.Walk.{longestReport}
+use Rattle.text.proofs.TotalsOwed.{BlockOf}
+use Rattle.text.specs.Report.{own, linesOf, textOf, reportOf}
+use Rattle.text.specs.Walk.{wholeReport, longestReport}
+use Rattle.text.proofs.SmallAnswers.{AreBytes, all-small}
 use Rattle.text.proofs.DateOrder.{answers-ordered}
 use Rattle.text.proofs.Sizes.{AllSmall, rest-small, rest-fewer, own-small, own-fewer, total-most, lines-most}
-use Rattle.text.proofs.SmallAnswers.{all-small}
 use Rattle.lines.specs.Text.{header}
 use Rattle.lines.proofs.Lengths.{refused-line-most}
+use Rattle.text.specs.declared.Printed.the-variants.{Written}
+
+-- Buffers of so many bytes are long enough for every log: no log of at most 65,536 bytes has longer answers, and no log a longer report.
+unfoldable pub LongEnough : ℕ → ℕ → Type 0
+LongEnough answers text =
+    (s : List ℕ) → AreBytes s → (length s ≤ longest → length (bytesOf (answersTo s)) ≤ answers) × (length (wholeReport s) ≤ text)
 
 module _ (s : List ℕ) (bytes : AreBytes s) where
   abbrev Short : Outcome → Type 0

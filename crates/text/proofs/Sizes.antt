@@ -22,9 +22,9 @@ use Rattle.log.proofs.Longest.{mostDays}
 use Rattle.records.proofs.Choice.{by-cond}
 use Rattle.totals.specs.Months.{monthOf, yearAt, monthAt, months}
 use Rattle.totals.specs.Tally.{InMonthOrder}
-use Rattle.totals.specs.Totals.{countedIn, none, one, plus, shareOf, totalOf, isMonth, monthTotal, seasonTotal, eachMonth, together}
+use Rattle.totals.specs.Totals.{countedIn, none, one, plus, shareOf, totalOf, isMonth, monthTotal, seasonTotal, eachMonth}
+use Rattle.totals.proofs.Shares.{together, season-is-months}
 use Rattle.totals.specs.declared.tally.Total.{Total}
-use Rattle.totals.proofs.Shares.{season-is-months}
 use Rattle.text.specs.Report.{lineOf, answerLines, monthText, seasonText, aboutBlock, ownFrom, own, blockLines, linesOf}
 use Rattle.text.specs.Walk.{BlockOrdered, Ordered}
 use Rattle.text.proofs.Blocks.{own-front}

@@ -6,8 +6,8 @@ use mathlib.Core.List.{List, [], _∷_, _++_}
 use Prim.Native.Nat.{ℕ, _+_, _≤_, _<_}
 use native.Mathlib.Omega.{arith}
 use lib.Dec.{lit≤}
-use lib.ListN.{length}
-use Rattle.answers.specs.Answers.{Role}
+use lib.ListN.{length, getD}
+use Rattle.answers.specs.Answers.{Role, beside}
 use Rattle.answers.specs.declared.Answer.{Answer}
 use Rattle.answers.proofs.Roles.{AllBeside, AllModerate}
 use Rattle.day.specs.Calendar.{isDate}
@@ -19,7 +19,7 @@ use Rattle.day.specs.declared.Refusal.the-variants.{BadDate}
 use Rattle.day.specs.declared.Station.{Station}
 use Rattle.day.specs.declared.Verdict.{Verdict}
 use Rattle.day.specs.declared.Verdict.the-variants.{Figure, Refused, Estimated}
-use Rattle.day.specs.Bound.{FigureAtMost}
+use Rattle.day.specs.Parts.{FigureAtMost}
 use Rattle.day.proofs.Dates.{date-tells}
 use Rattle.day.proofs.FigureLimit.{mostFigure, figure-most}
 use Rattle.day.proofs.Passed.{day-high}
@@ -27,19 +27,22 @@ use Rattle.records.specs.Bytes.{wordAt}
 use Rattle.records.specs.Record.{dayAt}
 use Rattle.records.proofs.Choice.{by-cond}
 use Rattle.log.specs.History.{goodDate, earlierMeans, verdictOf}
-use Rattle.log.specs.Log.{unopened, Entry, day, pastAll, cropAnswers, answersFor, answersOf, answersAtEnd, answersIn, answersTo}
-use Rattle.log.specs.Log.{Reading, refused, accepted, readingOf, entriesOf}
+use Rattle.log.specs.Log.{unopened, Entry, day, pastAll, cropAnswers, answersFor, answersOf, answersAtEnd, answersIn, answersTo, Reading, refused, accepted, readingOf}
+use Rattle.log.specs.Parts.{entriesOf}
 use Rattle.log.proofs.Laws.{Kept, moderate, entry-cases, end-beside, end-moderate}
 use Rattle.log.proofs.Means.{good-date}
 use Rattle.log.proofs.Planted.{one-most}
 use Rattle.log.proofs.SoundRecords.{SoundEntry, SoundEntries, sound-reading}
 use Rattle.log.proofs.SoundStation.{Sound, station-constants}
-use Rattle.text.specs.Report.{AreBytes}
 use Rattle.text.proofs.Laws.{Owed, owed}
 use Rattle.text.proofs.Sizes.{AllSmall}
 use Rattle.lines.specs.Text.{verdictText, dayLine}
 use Rattle.lines.proofs.Digits.{padded-most, inches-most}
 use Rattle.lines.proofs.Lengths.{refusal-most, estimate-size, day-line-size}
+
+-- every element is below 256
+abbrev pub AreBytes : List ℕ → Type 0
+AreBytes s = (i : ℕ) → getD s i 0 < 256
 
 -- answers beside those of stations and days
 beside-small : (l : List Answer) → AllBeside l → AllModerate l → AllSmall l

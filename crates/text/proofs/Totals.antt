@@ -11,9 +11,8 @@ use Rattle.day.specs.Calendar.{isDate}
 use Rattle.day.specs.declared.Code.{Code}
 use Rattle.day.specs.declared.Verdict.{Verdict}
 use Rattle.day.specs.declared.Verdict.the-variants.{Figure, Estimated}
-use Rattle.log.specs.DateOrder.{InDateOrder}
+use Rattle.log.proofs.DateOrder.{InDateOrder, in-date-order}
 use Rattle.log.specs.Log.{answersTo}
-use Rattle.log.proofs.DateOrder.{in-date-order}
 use Rattle.totals.specs.Months.{monthOf}
 use Rattle.totals.specs.Tally.{monthNumber, InMonthOrder}
 use Rattle.totals.specs.Totals.{none, one, countedOf, shareOf, isMonth}
@@ -21,7 +20,7 @@ use Rattle.totals.specs.declared.tally.Counted.the-variants.{Day}
 use Rattle.totals.proofs.Calendar.{in-one-month}
 use Rattle.totals.proofs.Shares.{season-is-months, same-month, other-month}
 use Rattle.text.specs.Report.{answerLines, aboutBlock, own, blockLines, linesOf}
-use Rattle.text.specs.Totals.{BlockOf, AnsweredIn, CountsOnce, TotalsOwed}
+use Rattle.text.proofs.TotalsOwed.{BlockOf, AnsweredIn, CountsOnce, TotalsOwed}
 use Rattle.text.specs.Walk.{Ordered}
 use Rattle.text.proofs.Blocks.{own-front}
 use Rattle.text.proofs.DateOrder.{answers-ordered, date-listed, rest-in-order}

@@ -9,10 +9,10 @@ use Rattle.answers.specs.Answers.{roleOf, answerBytes}
 use Rattle.answers.specs.ReadBack.{StandsAt}
 use Rattle.answers.specs.declared.Answer.{Answer}
 use Rattle.text.specs.Report.{own, linesOf}
-use Rattle.text.specs.Walk.{Holds, Ordered, Room, Laid, Stands, openAfter, seenAfter, aboutOpen, printed, linesFrom}
+use Rattle.text.specs.Walk.{Holds, Ordered, Room, Laid, Stands, openAfter, aboutOpen, printed}
+use Rattle.text.proofs.Blocks.{seenAfter, linesFrom, prints, prints-last, InBlock, block-stands, next-in-block}
 use Rattle.text.specs.declared.walk.Open.{Open}
 use Rattle.text.specs.declared.walk.Open.the-variants.{NoBlock}
-use Rattle.text.proofs.Blocks.{prints, prints-last, InBlock, block-stands, next-in-block}
 use Rattle.text.proofs.Going.{Going, none-gone, stands-as, room, one-more, room-last, all-laid}
 
 pub record Walked (s : List ℕ) (n : ℕ) (writes : Bool) (before : List ℕ) (start : ℕ) (text : List ℕ) (at to : ℕ) (block : Open) (all : List Answer) : Type 0 where

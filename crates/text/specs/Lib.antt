@@ -1,4 +1,3 @@
 -- The definitions that the contracts of the report cite.
 pub mod Report
-pub mod Totals
 pub mod Walk

@@ -3,12 +3,12 @@
 use mathlib.Core.Bool.{cond}
 use mathlib.Core.List.{List, [], _∷_, _++_}
 use mathlib.Core.Path.{_≡_}
-use Prim.Native.Nat.{ℕ, _≤_, _<_}
+use Prim.Native.Nat.{ℕ}
 use lib.Dec.{ltb, eqb}
-use lib.ListN.{length, drop, getD}
-use Rattle.answers.specs.Answers.{Role, opens, ofDay, beside, roleOf, bytesOf}
+use lib.ListN.{length, drop}
+use Rattle.answers.specs.Answers.{Role, opens, ofDay, beside, roleOf}
 use Rattle.day.specs.declared.Code.{Code}
-use Rattle.log.specs.Log.{longest, outcomeOf, answersTo}
+use Rattle.log.specs.Log.{outcomeOf, answersTo}
 use Rattle.answers.specs.declared.Answer.{Answer}
 use Rattle.answers.specs.declared.Answer.the-variants as answer
 use Rattle.log.specs.declared.Outcome.{Outcome}
@@ -74,10 +74,6 @@ textOf (outcome.Refused number value) answers = refusedLine number value
 unfoldable pub reportOf : List ℕ → ℕ → List ℕ
 reportOf s size = textOf (outcomeOf s size) (answersTo s)
 
--- the report of a log, with room for its answers: 12 does not hold
-unfoldable pub wholeReport : List ℕ → List ℕ
-wholeReport s = reportOf s (length (bytesOf (answersTo s)))
-
 -- ---- a lent text buffer
 
 -- the length written, or the length needed where the buffer has fewer bytes
@@ -94,12 +90,3 @@ pub record Prints (text before : List ℕ) (returned : Printed) (after : List �
   pub bytes : after ≡ textOver before text
 
 -- ---- buffers that are long enough
-
--- every element is below 256
-abbrev pub AreBytes : List ℕ → Type 0
-AreBytes s = (i : ℕ) → getD s i 0 < 256
-
--- Buffers of so many bytes are long enough for every log: no log of at most 65,536 bytes has longer answers, and no log a longer report.
-unfoldable pub LongEnough : ℕ → ℕ → Type 0
-LongEnough answers text =
-    (s : List ℕ) → AreBytes s → (length s ≤ longest → length (bytesOf (answersTo s)) ≤ answers) × (length (wholeReport s) ≤ text)

@@ -1,4 +1,5 @@
--- What the walk over the answers of a log is asked for and gives. The contract of `write_report` does not cite it. Assumes nothing.
+-- What the walk over the answers of a log is asked for and gives, and the report that the program prints. The contract of `write_report` does not cite it.
+-- Assumes nothing.
 use mathlib.Core.Bool.{Bool, true}
 use mathlib.Core.List.{List, [], _∷_, _++_}
 use mathlib.Core.Path.{_≡_}
@@ -7,10 +8,15 @@ use lib.ListN.{length, drop}
 use Rattle.answers.specs.Answers.{Role, opens, ofDay, beside, roleOf, bytesOf}
 use Rattle.answers.specs.Overwriting.{laidIf}
 use Rattle.answers.specs.declared.Answer.{Answer}
-use Rattle.text.specs.Report.{lineOf, answerLines, aboutBlock, own, linesOf}
+use Rattle.text.specs.Report.{lineOf, aboutBlock, own, reportOf}
 use Rattle.totals.specs.Tally.{InMonthOrder}
 use Rattle.text.specs.declared.walk.Open.{Open}
 use Rattle.text.specs.declared.walk.Open.the-variants.{NoBlock, In}
+use Rattle.log.specs.Log.{answersTo}
+
+-- the report of a log, with room for its answers: 12 does not hold
+unfoldable pub wholeReport : List ℕ → List ℕ
+wholeReport s = reportOf s (length (bytesOf (answersTo s)))
 
 -- the bytes from the index `from` up to n are those of the answers
 pub record Holds (s : List ℕ) (from n : ℕ) (answers : List Answer) : Type 0 where
@@ -54,11 +60,6 @@ openAfter block (opens code) next = In (record { code = code; from = next })
 openAfter block (ofDay year d verdict) next = block
 openAfter block beside next = block
 
-abbrev pub seenAfter : List Answer → Role → Answer → List Answer
-seenAfter seen (opens code) a = []
-seenAfter seen (ofDay year d verdict) a = seen ++ a ∷ []
-seenAfter seen beside a = seen ++ a ∷ []
-
 -- what is printed where a block ends, and of an answer in it
 abbrev pub aboutOpen : Open → List Answer → List ℕ
 aboutOpen NoBlock seen = []
@@ -73,11 +74,3 @@ abbrev pub printed : Open → List Answer → Role → Answer → List ℕ
 printed block seen (opens code) a = aboutOpen block seen
 printed block seen (ofDay year d verdict) a = lineIn block a
 printed block seen beside a = lineIn block a
-
--- what the block that is open has yet to print, with its answers `more`; and what all the answers from there on print
-abbrev pub openLines : Open → List Answer → List Answer → List ℕ
-openLines NoBlock seen more = []
-openLines (In b) seen more = answerLines (b .code) more ++ aboutBlock (b .code) (seen ++ more)
-
-abbrev pub linesFrom : Open → List Answer → List Answer → List ℕ
-linesFrom block seen left = openLines block seen (own left) ++ linesOf left

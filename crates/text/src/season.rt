@@ -2,7 +2,7 @@
 ghost use mathlib.Core.List.{List};
 ghost use Prim.Native.Nat.{_≤_};
 ghost use Rattle.answers.specs.declared.Answer.{Answer as Answered};
-ghost use Rattle.log.specs.Log.{longestAnswers};
+ghost use Rattle.log.specs.Parts.{longestAnswers};
 ghost use Rattle.text.specs.Report.{monthText, seasonText, aboutBlock};
 ghost use Rattle.text.specs.Walk.{Holds, Room, Laid};
 ghost use Rattle.totals.specs.Tally.{ended, InMonthOrder};

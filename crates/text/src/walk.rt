@@ -2,7 +2,7 @@
 ghost use mathlib.Core.List.{List};
 ghost use mathlib.Core.Path.{_≡_};
 ghost use Prim.Native.Nat.{_≤_};
-ghost use Rattle.log.specs.Log.{longestAnswers};
+ghost use Rattle.log.specs.Parts.{longestAnswers};
 ghost use Rattle.answers.specs.Answers.{roleOf};
 ghost use Rattle.answers.specs.declared.Answer.{Answer as Answered};
 ghost use Rattle.text.specs.Report.{linesOf};

@@ -12,7 +12,27 @@ use Rattle.numbers.proofs.Table.{every, entry-passes}
 use Rattle.tables.proofs.Searches.{none-before, first-passes, first-at-most}
 use Rattle.day.specs.Calendar.{yearLength, isDate}
 use Rattle.day.proofs.Dates.{year-length-in, date-tells}
-use Rattle.totals.specs.Months.{offsets, leapDays, daysBy, monthOf, lengths, addedUp, daysOfFirst, InMonth}
+use Rattle.totals.specs.Months.{offsets, leapDays, daysBy, monthOf, months}
+
+-- their lengths, January to December, with so many leap days
+abbrev pub lengths : ℕ → List ℕ
+lengths leap = 31 ∷ (28 + leap) ∷ 31 ∷ 30 ∷ 31 ∷ 30 ∷ 31 ∷ 31 ∷ 30 ∷ 31 ∷ 30 ∷ 31 ∷ []
+
+-- the days of the first i of these months
+unfoldable pub addedUp : ℕ → List ℕ → ℕ
+addedUp zero months = 0
+addedUp (suc i) [] = 0
+addedUp (suc i) (days ∷ months) = days + addedUp i months
+
+abbrev pub daysOfFirst : ℕ → ℕ → ℕ
+daysOfFirst i year = addedUp i (lengths (leapDays year))
+
+-- day d of the year is in its month m
+pub record InMonth (year d m : ℕ) : Type 0 where
+  pub from-january : 1 ≤ m
+  pub to-december : m ≤ 12
+  pub behind : daysOfFirst (m - 1) year < d
+  pub within : d ≤ daysOfFirst m year
 
 -- ---- the table has the days that the months' lengths add up to
 

@@ -9,13 +9,17 @@ use native.Mathlib.Decide.{ℕ-discrete}
 use native.Mathlib.Omega.{arith}
 use Rattle.answers.specs.declared.Answer.{Answer}
 use Rattle.totals.specs.Months.{yearAt, monthAt, months}
-use Rattle.totals.specs.Tally.{begun, soFar, after, ended, said, monthNumber, Comes, reached, InMonthOrder}
+use Rattle.totals.specs.Tally.{begun, soFar, after, ended, monthNumber, Comes, reached, InMonthOrder}
 use Rattle.totals.specs.Totals.{none, one, plus, countedOf, shareOf, totalOf, isMonth, monthTotal, seasonTotal, eachMonth}
 use Rattle.totals.specs.declared.tally.Counted.{Counted}
 use Rattle.totals.specs.declared.tally.Counted.the-variants.{Nothing, Day}
 use Rattle.totals.specs.declared.tally.Tally.{Tally}
 use Rattle.totals.specs.declared.tally.Total.{Total}
 use Rattle.totals.proofs.Shares.{plus-none, one-more, is-month, not-month, its-month, no-other}
+
+abbrev pub said : (ℕ → ℕ → Total → List ℕ) → (Total → List ℕ) → Tally → List Answer → List ℕ
+said line last t [] = line (t .year) (t .month) (t .total) ++ last (t .season)
+said line last t (a ∷ rest) = ended line t (countedOf a) ++ said line last (after t (countedOf a)) rest
 
 abbrev totalAt : List Answer → ℕ → Total
 totalAt answers k = monthTotal answers (yearAt k) (monthAt k)

@@ -3,7 +3,7 @@
 use mathlib.Core.Path.{_≡_, refl, sym, ap, ap₂, _∙_}
 use mathlib.Core.Bool.{Bool, true, false, cond, _&&_, and-false}
 use mathlib.Core.List.{List, [], _∷_, _++_}
-use Prim.Native.Nat.{ℕ, zero, suc, _+_, _≤_, _<_}
+use Prim.Native.Nat.{ℕ, zero, suc, _≤_, _<_}
 use native.Mathlib.Decide.{ℕ-discrete}
 use native.Mathlib.Omega.{arith}
 use lib.Dec.{eqb}
@@ -11,10 +11,15 @@ use borrow.Author.Tests.{eq-eqb, ne-eqb}
 use Rattle.answers.specs.declared.Answer.{Answer}
 use Rattle.totals.specs.Months.{yearAt, monthAt, months}
 use Rattle.totals.specs.Tally.{monthNumber, Comes, InMonthOrder}
-use Rattle.totals.specs.Totals.{none, one, plus, countedOf, shareOf, totalOf, isMonth, monthTotal, seasonTotal, together}
+use Rattle.totals.specs.Totals.{none, one, plus, countedOf, shareOf, totalOf, isMonth, monthTotal, seasonTotal}
 use Rattle.totals.specs.declared.tally.Counted.{Counted}
 use Rattle.totals.specs.declared.tally.Counted.the-variants.{Nothing, Day}
 use Rattle.totals.specs.declared.tally.Total.{Total}
+
+-- the first k months together
+unfoldable pub together : (ℕ → ℕ → Total) → ℕ → Total
+together total zero = none
+together total (suc k) = plus (together total k) (total (yearAt k) (monthAt k))
 
 -- ---- totals together
 

@@ -1,7 +1,7 @@
 -- The months of the calendar, by document 02, W5. Assumes nothing.
 use mathlib.Core.Bool.{cond}
 use mathlib.Core.List.{List, [], _∷_}
-use Prim.Native.Nat.{ℕ, zero, suc, _+_, _*_, _-_, _/_, _%_, _≤_, _<_}
+use Prim.Native.Nat.{ℕ, _+_, _*_, _-_, _/_, _%_}
 use lib.Dec.{ltb, leb}
 use lib.ListN.{getD}
 use Rattle.tables.specs.Values.{first}
@@ -25,26 +25,6 @@ unfoldable pub monthOf : ℕ → ℕ → ℕ
 monthOf year d = first (λ (i : ℕ). leb d (daysBy year i)) 13 0
 
 -- ---- the calendar's own months, by their lengths
-
--- their lengths, January to December, with so many leap days
-abbrev pub lengths : ℕ → List ℕ
-lengths leap = 31 ∷ (28 + leap) ∷ 31 ∷ 30 ∷ 31 ∷ 30 ∷ 31 ∷ 31 ∷ 30 ∷ 31 ∷ 30 ∷ 31 ∷ []
-
--- the days of the first i of these months
-unfoldable pub addedUp : ℕ → List ℕ → ℕ
-addedUp zero months = 0
-addedUp (suc i) [] = 0
-addedUp (suc i) (days ∷ months) = days + addedUp i months
-
-abbrev pub daysOfFirst : ℕ → ℕ → ℕ
-daysOfFirst i year = addedUp i (lengths (leapDays year))
-
--- day d of the year is in its month m
-pub record InMonth (year d m : ℕ) : Type 0 where
-  pub from-january : 1 ≤ m
-  pub to-december : m ≤ 12
-  pub behind : daysOfFirst (m - 1) year < d
-  pub within : d ≤ daysOfFirst m year
 
 -- ---- the months of the calendar in date order, 0 for January 1950
 

@@ -1,7 +1,7 @@
 -- How the totals are kept while a block's answers are gone through in date order: the contracts of the tally cite it, no public promise does.
 -- Assumes nothing.
 use mathlib.Core.Bool.{Bool, false, not, cond}
-use mathlib.Core.List.{List, [], _∷_, _++_}
+use mathlib.Core.List.{List, [], _∷_}
 use mathlib.Core.Path.{_≡_}
 use Prim.Native.Nat.{ℕ, _+_, _*_, _-_, _≤_, _<_}
 use Rattle.answers.specs.declared.Answer.{Answer}
@@ -40,10 +40,6 @@ after t (Day year month n) =
 -- what is said of each month when it ends, and of the season behind the last answer
 abbrev pub ended : (ℕ → ℕ → Total → List ℕ) → Tally → Counted → List ℕ
 ended line t c = cond (begins t c) (line (t .year) (t .month) (t .total)) []
-
-abbrev pub said : (ℕ → ℕ → Total → List ℕ) → (Total → List ℕ) → Tally → List Answer → List ℕ
-said line last t [] = line (t .year) (t .month) (t .total) ++ last (t .season)
-said line last t (a ∷ rest) = ended line t (countedOf a) ++ said line last (after t (countedOf a)) rest
 
 -- ---- date order
 

@@ -56,8 +56,3 @@ seasonTotal answers = totalOf (λ year month. true) answers
 unfoldable pub eachMonth : (ℕ → ℕ → Total → List ℕ) → (ℕ → ℕ → Total) → ℕ → List ℕ
 eachMonth line total zero = []
 eachMonth line total (suc k) = eachMonth line total k ++ line (yearAt k) (monthAt k) (total (yearAt k) (monthAt k))
-
--- the first k months together
-unfoldable pub together : (ℕ → ℕ → Total) → ℕ → Total
-together total zero = none
-together total (suc k) = plus (together total k) (total (yearAt k) (monthAt k))

@@ -5,7 +5,7 @@ use native.Mathlib.Omega.{arith}
 use lib.ListN.{length}
 use denote.Ref.{now}
 use borrow.Author.Needs.{needs}
-use Rattle.text.specs.Report.{AreBytes}
+use Rattle.text.proofs.SmallAnswers.{AreBytes}
 use Rattle.text.specs.declared.Printed.{Printed}
 use Rattle.text.proofs.LongEnough.{report-most}
 use Rattle.text.proofs.Prints.{sizeIn, printed-size}

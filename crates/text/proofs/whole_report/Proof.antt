@@ -6,10 +6,12 @@ use native.Mathlib.Omega.{arith}
 use lib.ListN.{length}
 use denote.Ref.{now}
 use borrow.Author.Needs.{needs}
-use Rattle.log.specs.Log.{longestAnswers}
-use Rattle.text.specs.Report.{reportOf, wholeReport, Prints, AreBytes, LongEnough}
+use Rattle.log.specs.Parts.{longestAnswers}
+use Rattle.text.specs.Report.{reportOf, Prints}
+use Rattle.text.specs.Walk.{wholeReport}
+use Rattle.text.proofs.LongEnough.{LongEnough, long-enough, whole}
+use Rattle.text.proofs.SmallAnswers.{AreBytes}
 use Rattle.text.specs.declared.Printed.{Printed}
-use Rattle.text.proofs.LongEnough.{long-enough, whole}
 use Rattle.text.proofs.Prints.{never-needs, stands-in-front}
 use Rattle.text.proofs.whole_report.Statement.{statement}
 use Rattle.text.proofs.whole_report.Tie as tie

@@ -5,7 +5,7 @@ use denote.Ref.{now}
 use borrow.Author.Needs.{needs}
 use Rattle.log.specs.Log.{answersTo, Read}
 use Rattle.log.specs.declared.Outcome.{Outcome}
-use Rattle.text.specs.Report.{AreBytes}
+use Rattle.text.proofs.SmallAnswers.{AreBytes}
 use Rattle.text.proofs.DateOrder.{answers-ordered}
 use Rattle.text.proofs.FromLog.{answers-few, lines-short, answers-held, report-text}
 use Rattle.text.proofs.write_report.Statement.{statement}

@@ -10,7 +10,7 @@ use borrow.Author.Needs.{needs}
 use Rattle.answers.specs.Answers.{answerBytes}
 use Rattle.answers.specs.declared.Answer.{Answer}
 use Rattle.answers.proofs.Roles.{some-bytes}
-use Rattle.log.specs.Log.{longestAnswers}
+use Rattle.log.specs.Parts.{longestAnswers}
 use Rattle.totals.specs.Tally.{begun, after, ended, Within}
 use Rattle.totals.specs.declared.tally.Counted.{Counted}
 use Rattle.totals.specs.declared.tally.Tally.{Tally}

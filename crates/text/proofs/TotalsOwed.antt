@@ -1,4 +1,4 @@
--- What is owed of a report's totals, over the answers that a log is given, from the log's bytes. Assumes nothing.
+-- What is owed for the totals of a log's blocks (document 02, W5), from its bytes: `TotalsOwed`, which Totals.antt proves. Assumes nothing.
 use mathlib.Core.Path.{_≡_}
 use mathlib.Core.List.{List, _∷_, _++_}
 use mathlib.Core.Logic.{_⊎_}
@@ -9,8 +9,10 @@ use Rattle.day.specs.declared.Code.{Code}
 use Rattle.day.specs.declared.Verdict.{Verdict}
 use Rattle.day.specs.declared.Verdict.the-variants.{Figure, Estimated}
 use Rattle.log.specs.Log.{answersTo}
-use Rattle.totals.specs.Months.{yearAt, monthAt, months, InMonth}
-use Rattle.totals.specs.Totals.{none, one, countedOf, shareOf, isMonth, monthTotal, seasonTotal, together}
+use Rattle.totals.specs.Months.{yearAt, monthAt, months}
+use Rattle.totals.proofs.Calendar.{InMonth}
+use Rattle.totals.specs.Totals.{none, one, countedOf, shareOf, isMonth, monthTotal, seasonTotal}
+use Rattle.totals.proofs.Shares.{together}
 use Rattle.text.specs.Report.{answerLines, aboutBlock, own, linesOf}
 
 -- a block of a log: its station's code, and its answers

@@ -1,5 +1,5 @@
--- How near the figure of the step sheet is to the value of the unrounded equation, over the sheet's own numbers: what is asked of them, and what the
--- equation is fed of them. Assumes nothing.
+-- How near the figure of the step sheet is to the value of the unrounded equation, over the sheet's own numbers: what is asked of them, what the
+-- equation is fed of them, and the statement, `FigureNear`, that Nearness.antt proves. Assumes nothing.
 use mathlib.Core.Bool.{false}
 use mathlib.Core.List.{List, [], _∷_, map}
 use mathlib.Core.Path.{_≡_}
@@ -18,12 +18,8 @@ use Rattle.sheet.specs.Accepted.{ReadingsInRange, EntriesInRange}
 use Rattle.sheet.specs.StepSheet as sheet
 use Rattle.sheet.specs.declared.Readings.{Readings}
 use Rattle.sheet.specs.declared.Entries.{Entries}
-use Rattle.equation.specs.Equation.{Inputs, value}
+use Rattle.equation.specs.Equation.{tenths, Inputs, value}
 use Rattle.equation.specs.Equation as equation
-
--- a reading in tenths as a fraction
-abbrev pub tenths : ℤ → ℚ
-tenths f = fromℤ f *ℚ 1 /ℚ 10
 
 -- what is taken of the station, and `d`: c1 to c5 and the clear-day minimum, from which a clear day is worked, and the wind limit
 pub record Constants : Type 0 where
