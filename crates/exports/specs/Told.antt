@@ -1,6 +1,7 @@
 -- What a number that an exported function returns says of a day, of a log or of a report. Every number of 64 bits says one thing, and no two say the same (proofs/Told.antt, `told-apart`).
 -- Assumes nothing.
 use mathlib.Core.Bool.{cond}
+use mathlib.Core.List.{List}
 use mathlib.Core.Path.{_≡_}
 use Prim.Native.Nat.{ℕ, _/_, _%_}
 use lib.Dec.{eqb}
@@ -14,6 +15,8 @@ use Rattle.day.specs.declared.Verdict.{Verdict}
 use Rattle.day.specs.declared.Verdict.the-variants.{Figure, Refused, Estimated}
 use Rattle.log.specs.declared.Outcome.{Outcome}
 use Rattle.log.specs.declared.Outcome.the-variants as outcome
+use Rattle.promises.specs.Demand.{AnsweredLog}
+use Rattle.text.specs.Report.{ReportOwed}
 use Rattle.text.specs.declared.Printed.{Printed}
 use Rattle.text.specs.declared.Printed.the-variants as printed
 
@@ -53,3 +56,11 @@ printedSaid (printed.Needs n) = refused 12 n
 unfoldable pub FigureSaid : Station → Day → Earlier → ℕ → Type 0
 FigureSaid st x earlier r =
     Answered st (asJudged x) earlier → (n : ℕ) × (saidBy r ≡ verdictSaid (withMark x n)) × WithinBound st (asJudged x) earlier n
+
+-- of the number returned for a log that the rules answer: a length and no refusal
+unfoldable pub LengthSaid : List ℕ → List ℕ → ℕ → Type 0
+LengthSaid s buffer r = AnsweredLog s buffer → (n : ℕ) × (saidBy r ≡ accepted n)
+
+-- of the number returned for such a log's report: what it says is printed is the report, and no line of a refusal
+unfoldable pub ReportSaid : List ℕ → List ℕ → List ℕ → ℕ → List ℕ → Type 0
+ReportSaid s buffer before r after = (p : Printed) × (saidBy r ≡ printedSaid p) × ReportOwed s buffer before p after

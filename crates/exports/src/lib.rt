@@ -8,7 +8,7 @@ ghost use Rattle.promises.specs.Demand.{FiguresOwed};
 ghost use Rattle.log.specs.Log.{outcomeOf, bufferAfter};
 ghost use Rattle.text.specs.Report.{reportOf, printedIn, textOver};
 ghost use Rattle.exports.specs.HandedIn.{stationOf, dayOf, meanOf, threeBefore};
-ghost use Rattle.exports.specs.Told.{said, saidBy, verdictSaid, outcomeSaid, printedSaid, FigureSaid};
+ghost use Rattle.exports.specs.Told.{said, saidBy, verdictSaid, outcomeSaid, printedSaid, FigureSaid, LengthSaid, ReportSaid};
 use day::Code;
 use day::Day;
 use day::Earlier;
@@ -116,6 +116,7 @@ pub extern "C" fn fuortwem_judge(
 #[no_mangle]
 pub extern "C" fn fuortwem_read_log(log: &[u8], answers: &mut [u8]) -> u64
     ensures { λ r. ⌜ saidBy r ≡ outcomeSaid (outcomeOf (now (log .entry)) (length (now (answers .entry)))) ⌝ }
+    ensures { λ r. ⌜ LengthSaid (now (log .entry)) (now (answers .entry)) r ⌝ }
     ensures { λ _. ⌜ now (answers .exit) ≡ bufferAfter (now (log .entry)) (now (answers .entry)) ⌝ }
     ensures { λ _. ⌜ FiguresOwed (now (log .entry)) (now (answers .entry)) (now (answers .exit)) ⌝ }
     ensures { λ _. ⌜ CropFiguresOwed (now (log .entry)) (now (answers .entry)) (now (answers .exit)) ⌝ }
@@ -132,6 +133,7 @@ pub extern "C" fn fuortwem_read_log(log: &[u8], answers: &mut [u8]) -> u64
 pub extern "C" fn fuortwem_report(log: &[u8], answers: &mut [u8], text: &mut [u8]) -> u64
     ensures { λ r. ⌜ saidBy r ≡ printedSaid (printedIn (length (now (text .entry))) (reportOf (now (log .entry)) (length (now (answers .entry))))) ⌝ }
     ensures { λ _. ⌜ now (text .exit) ≡ textOver (now (text .entry)) (reportOf (now (log .entry)) (length (now (answers .entry)))) ⌝ }
+    ensures { λ r. ⌜ ReportSaid (now (log .entry)) (now (answers .entry)) (now (text .entry)) r (now (text .exit)) ⌝ }
     ensures { λ _. ⌜ now (answers .exit) ≡ bufferAfter (now (log .entry)) (now (answers .entry)) ⌝ }
     ensures { λ _. ⌜ FiguresOwed (now (log .entry)) (now (answers .entry)) (now (answers .exit)) ⌝ }
     ensures { λ _. ⌜ CropFiguresOwed (now (log .entry)) (now (answers .entry)) (now (answers .exit)) ⌝ }

@@ -1,5 +1,5 @@
--- What `read_log` hands back, as the report takes it: the answers in the buffer (`answers-held`), the length of their lines (`lines-short`), and the
--- text (`report-text`). Assumes nothing.
+-- What `read_log` hands back, as the report takes it: the answers in the buffer (`answers-held`), the length of their lines (`lines-short`), the text
+-- (`report-text`), and that it is no refusal's where the rules answer the log (`with-report`). Assumes nothing.
 use mathlib.Core.Path.{sym, ap, _∙_, subst}
 use mathlib.Core.List.{List, _++_}
 use Prim.Native.Nat.{ℕ, _≤_}
@@ -15,7 +15,8 @@ use Rattle.log.specs.declared.Outcome.{Outcome}
 use Rattle.log.specs.declared.Outcome.the-variants.{Written, Refused}
 use Rattle.log.proofs.OutcomeSize.{Small, outcome-small, written-size}
 use Rattle.records.proofs.Choice.{by-cond}
-use Rattle.text.specs.Report.{linesOf, textOf, reportOf, Prints}
+use Rattle.promises.specs.Demand.{AnsweredLog}
+use Rattle.text.specs.Report.{linesOf, textOf, reportOf, Prints, ReportOwed}
 use Rattle.text.proofs.SmallAnswers.{AreBytes}
 use Rattle.text.specs.Walk.{longestReport, Holds}
 use Rattle.text.specs.declared.Printed.{Printed}
@@ -57,3 +58,10 @@ module _ {s buffer after : List ℕ} where
   unfolding reportOf
   report-text {text-before = text-before} {text-after = text-after} {r = r} h p =
       subst (λ (o : Outcome). Prints (textOf o (answersTo s)) text-before r text-after) (h .outcome) p
+
+-- and of a log that the rules answer it is no line of a refusal
+pub with-report : (s buffer : List ℕ) {text-before text-after : List ℕ} {r : Printed} → Prints (reportOf s (length buffer)) text-before r text-after
+    → ReportOwed s buffer text-before r text-after
+unfolding ReportOwed AnsweredLog reportOf
+with-report s buffer {text-before} {text-after} {r} p log =
+    subst (λ (o : Outcome). Prints (textOf o (answersTo s)) text-before r text-after) (log .1) p

@@ -14,6 +14,7 @@ use Rattle.answers.specs.declared.Answer.the-variants as answer
 use Rattle.log.specs.declared.Outcome.{Outcome}
 use Rattle.log.specs.declared.Outcome.the-variants as outcome
 use Rattle.lines.specs.Text.{header, dayLine, cropLine, monthLine, seasonLine, refusedLine}
+use Rattle.promises.specs.Demand.{AnsweredLog}
 use Rattle.totals.specs.Months.{months}
 use Rattle.totals.specs.Totals.{monthTotal, seasonTotal, eachMonth}
 use Rattle.totals.specs.declared.tally.Total.{Total}
@@ -89,4 +90,6 @@ pub record Prints (text before : List ℕ) (returned : Printed) (after : List �
   pub told : returned ≡ printedIn (length before) text
   pub bytes : after ≡ textOver before text
 
--- ---- buffers that are long enough
+-- "An answered day gets a figure and no refusal": of a log that the rules answer the report is printed, and no line of a refusal
+unfoldable pub ReportOwed : List ℕ → List ℕ → List ℕ → Printed → List ℕ → Type 0
+ReportOwed s buffer before returned after = AnsweredLog s buffer → Prints (header ++ linesOf (answersTo s)) before returned after

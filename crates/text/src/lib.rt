@@ -8,7 +8,7 @@ ghost use Rattle.promises.specs.Demand.{FiguresOwed};
 ghost use Rattle.log.specs.Log.{bufferAfter};
 ghost use Rattle.log.specs.Parts.{longestAnswers};
 ghost use Rattle.answers.specs.declared.Answer.{Answer as Answered};
-ghost use Rattle.text.specs.Report.{linesOf, reportOf, Prints};
+ghost use Rattle.text.specs.Report.{linesOf, reportOf, Prints, ReportOwed};
 ghost use Rattle.text.specs.Walk.{wholeReport};
 ghost use Rattle.lines.specs.Text.{header as Text·header};
 ghost use Rattle.lines.specs.Text.{refusedLine};
@@ -63,6 +63,7 @@ fn print_answers(answers: &[u8], n: usize, text: &mut [u8]) -> Printed
 // Reads a log and writes its report. The answers are left as `read_log` leaves them.
 pub fn write_report(log: &[u8], answers: &mut [u8], text: &mut [u8]) -> Printed
     ensures { λ r. ⌜ Prints (reportOf (now (log .entry)) (length (now (answers .entry)))) (now (text .entry)) r (now (text .exit)) ⌝ }
+    ensures { λ r. ⌜ ReportOwed (now (log .entry)) (now (answers .entry)) (now (text .entry)) r (now (text .exit)) ⌝ }
     ensures { λ _. ⌜ now (answers .exit) ≡ bufferAfter (now (log .entry)) (now (answers .entry)) ⌝ }
     ensures { λ _. ⌜ FiguresOwed (now (log .entry)) (now (answers .entry)) (now (answers .exit)) ⌝ }
     ensures { λ _. ⌜ CropFiguresOwed (now (log .entry)) (now (answers .entry)) (now (answers .exit)) ⌝ }

@@ -2,7 +2,7 @@
 use mathlib.Core.Path.{sym, ap, _∙_}
 use borrow.Author.Needs.{needs}
 use Rattle.exports.specs.Told.{outcomeSaid}
-use Rattle.exports.proofs.Returned.{written-small, refused-small, refused-said}
+use Rattle.exports.proofs.Returned.{written-small, refused-small, refused-said, length-said}
 use Rattle.exports.proofs.fuortwem_read_log.Statement.{statement}
 use Rattle.exports.proofs.fuortwem_read_log.Tie as tie
 
@@ -20,14 +20,16 @@ returns : tie.Need-returns
 returns c =
     let n = c .before .before in
     let read = n .before .before .before .before .read-log .ensures in
-    (c .packed .ensures ∙ ap outcomeSaid (sym (n .n .given .1) ∙ read .0 .outcome), (read .0 .written, read .1 .1))
+    let said = c .packed .ensures ∙ ap outcomeSaid (sym (n .n .given .1) ∙ read .0 .outcome) in
+    (said, (length-said _ _ _ said, (read .0 .written, read .1 .1)))
 
 returns-2 : tie.Need-returns-2
 returns-2 c =
     let k = c .before .before in
     let read = k .before .before .before .before .read-log .ensures in
     let outcome = sym (k .k .given .1) ∙ read .0 .outcome in
-    (c .packed2 .ensures ∙ refused-said _ _ outcome ∙ ap outcomeSaid outcome, (read .0 .written, read .1 .1))
+    let said = c .packed2 .ensures ∙ refused-said _ _ outcome ∙ ap outcomeSaid outcome in
+    (said, (length-said _ _ _ said, (read .0 .written, read .1 .1)))
 
 pub fuortwem-read-log-spec : {M : Type 1} → statement M
 fuortwem-read-log-spec =

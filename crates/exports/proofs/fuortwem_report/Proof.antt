@@ -9,7 +9,7 @@ use Rattle.text.proofs.SmallAnswers.{AreBytes}
 use Rattle.text.specs.declared.Printed.{Printed}
 use Rattle.text.proofs.LongEnough.{report-most}
 use Rattle.text.proofs.Prints.{sizeIn, printed-size}
-use Rattle.exports.specs.Told.{printedSaid}
+use Rattle.exports.specs.Told.{printedSaid, ReportSaid}
 use Rattle.exports.proofs.fuortwem_report.Statement.{statement}
 use Rattle.exports.proofs.fuortwem_report.Tie as tie
 
@@ -36,16 +36,20 @@ cast-packed-2 : tie.Need-cast-packed-2
 cast-packed-2 c = let n = c .before in record { fits = small (n .before .before .before .before .before .before) (n .n2 .given .1) }
 
 returns : tie.Need-returns
+unfolding ReportSaid
 returns c =
     let n = c .before .before in
     let report = n .before .before .before .before .before .before .write-report .ensures in
-    (c .packed .ensures ∙ ap printedSaid (sym (n .n .given .1) ∙ report .0 .told), (report .0 .bytes, report .1))
+    let said = c .packed .ensures ∙ ap printedSaid (sym (n .n .given .1)) in
+    (said ∙ ap printedSaid (report .0 .told), (report .0 .bytes, ((_, said, report .1 .0), report .1 .1)))
 
 returns-2 : tie.Need-returns-2
+unfolding ReportSaid
 returns-2 c =
     let n = c .before .before in
     let report = n .before .before .before .before .before .before .write-report .ensures in
-    (c .packed2 .ensures ∙ ap printedSaid (sym (n .n2 .given .1) ∙ report .0 .told), (report .0 .bytes, report .1))
+    let said = c .packed2 .ensures ∙ ap printedSaid (sym (n .n2 .given .1)) in
+    (said ∙ ap printedSaid (report .0 .told), (report .0 .bytes, ((_, said, report .1 .0), report .1 .1)))
 
 pub fuortwem-report-spec : {M : Type 1} → statement M
 fuortwem-report-spec =

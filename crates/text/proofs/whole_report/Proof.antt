@@ -40,7 +40,7 @@ returns : tie.Need-returns
 returns c =
     let call = c .before .before .before in
     let front = stands-in-front (fits call) (prints call (c .before .n .given .1)) in
-    ((front, omega (arith, front .size, fits call)), call .write-report .ensures .1 .0)
+    ((front, omega (arith, front .size, fits call)), call .write-report .ensures .1 .1 .0)
 
 returns-2 : tie.Need-returns-2
 returns-2 c = let call = c .before .before in absurd (never-needs (fits call) (prints call (c .enum-told .given .1)))

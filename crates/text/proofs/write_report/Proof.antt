@@ -7,7 +7,7 @@ use Rattle.log.specs.Log.{answersTo, Read}
 use Rattle.log.specs.declared.Outcome.{Outcome}
 use Rattle.text.proofs.SmallAnswers.{AreBytes}
 use Rattle.text.proofs.DateOrder.{answers-ordered}
-use Rattle.text.proofs.FromLog.{answers-few, lines-short, answers-held, report-text}
+use Rattle.text.proofs.FromLog.{answers-few, lines-short, answers-held, report-text, with-report}
 use Rattle.text.proofs.write_report.Statement.{statement}
 use Rattle.text.proofs.write_report.Tie as tie
 
@@ -36,7 +36,8 @@ returns c =
     let call = c .before .before in
     let told = call .before .before .before in
     let log = told .before .before .before .before in
-    (report-text (read log (told .number .given .1)) (call .print-refused .ensures), (log .read-log .ensures .0 .written, log .read-log .ensures .1 .1))
+    let printed = report-text (read log (told .number .given .1)) (call .print-refused .ensures) in
+    (printed, (with-report _ _ printed, (log .read-log .ensures .0 .written, log .read-log .ensures .1 .1)))
 
 returns-2 : tie.Need-returns-2
 returns-2 c =
@@ -44,7 +45,8 @@ returns-2 c =
     let told = call .before .before .before .before in
     let log = told .before .before .before .before in
     let h = read log (told .n .given .1) in
-    (report-text h (call .print-answers .ensures _ (answers-held h) (answers-ordered _)), (log .read-log .ensures .0 .written, log .read-log .ensures .1 .1))
+    let printed = report-text h (call .print-answers .ensures _ (answers-held h) (answers-ordered _)) in
+    (printed, (with-report _ _ printed, (log .read-log .ensures .0 .written, log .read-log .ensures .1 .1)))
 
 pub write-report-spec : {M : Type 1} → statement M
 write-report-spec =
