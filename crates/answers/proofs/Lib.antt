@@ -3,3 +3,4 @@ pub mod Bytes
 pub mod Roles
 pub mod Overwriting
 pub mod ReadBack
+pub mod Examples
