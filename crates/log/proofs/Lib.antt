@@ -2,6 +2,7 @@
 pub mod Calendar
 pub mod StateOf
 pub mod Means
+pub mod Examples
 pub mod Planted
 pub mod SoundStation
 pub mod Turns
