@@ -3,3 +3,4 @@ pub mod Values
 pub mod Choices
 pub mod Laws
 pub mod Lines
+pub mod Examples
