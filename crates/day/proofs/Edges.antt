@@ -82,6 +82,21 @@ dim =
       limit = routineLimit;
     }
 
+-- one whose c1 to c5 are all the same number
+abbrev constant : ℤ → Station
+constant c =
+    record {
+      code = record { first = 76; second = 73; third = 68; fourth = 87 };
+      c1 = c;
+      c2 = c;
+      c3 = c;
+      c4 = c;
+      c5 = c;
+      minimum = 100;
+      elevation = 497;
+      limit = routineLimit;
+    }
+
 -- LIDW with other letters than its first
 abbrev spelt : ℕ → ℕ → ℕ → Station
 spelt second third fourth =
@@ -190,6 +205,9 @@ table =
     ∷ (atStation (lidwWith 76 100 497 1_000) gives 0)
     ∷ (atStation (lidwWith 76 100 497 1_500) gives 0)
     ∷ (atStation (lidwWith 76 100 497 1_501) gives 3)
+    -- c1 to c5 are any, and -32,768 is no mark in them
+    ∷ (atStation (constant (negsuc 32_767)) gives 0)
+    ∷ (atStation (constant (pos 32_767)) gives 0)
     -- 6: the years, and the days of a leap year and of a common one
     ∷ (onDay (dated 1949 1) gives 6)
     ∷ (onDay (dated 1950 1) gives 0)
