@@ -5,7 +5,7 @@ use mathlib.Core.Bool.{true}
 use mathlib.Core.List.{List, [], _∷_, _++_}
 use Prim.Native.Nat.{ℕ}
 use lib.IntN.{pos}
-use lib.ListN.{drop}
+use lib.ListN.{take, drop}
 use Rattle.day.specs.Calendar.{yearLength, isDate}
 use Rattle.day.specs.Judgement.{holds, standingOf, lacksDewPoint, asJudged, judged, Answered}
 use Rattle.day.specs.declared.Earlier.{Earlier}
@@ -69,6 +69,11 @@ pub bytes : bufferAfter sample lent ≡
     ∷ 9 ∷ 9 ∷ []
 unfolding bufferAfter outcomeOf readingOf readFrom recordAt stationAt dayAt wordAt signedOf signedAt
 bytes = λ i. bytesOf (worked i) ++ (9 ∷ 9 ∷ [])
+
+-- a refused log leaves every byte: the same one cut off within its last day, and with a buffer that is one byte too short
+pub untouched : (bufferAfter (take 69 sample) lent ≡ lent) × (bufferAfter sample (take 31 lent) ≡ take 31 lent)
+unfolding bufferAfter outcomeOf readingOf readFrom recordAt stationAt dayAt wordAt signedOf signedAt
+untouched = (refl, refl)
 
 -- ---- two blocks
 
