@@ -1,10 +1,11 @@
--- Numbers and lines worked out as text: figures in inches, a number too long for its field, and lines of days at both ends. Assumes nothing.
+-- Numbers and lines worked out as text: figures in inches, a number too long for its field, lines of days at both ends, and numbers of two digits and more
+-- in the fields that have no width. Assumes nothing.
 use mathlib.Core.Path.{_≡_, refl}
 use mathlib.Core.List.{[], _∷_}
 use Rattle.day.specs.declared.Code.{Code}
-use Rattle.day.specs.declared.Refusal.the-variants.{BadDate}
+use Rattle.day.specs.declared.Refusal.the-variants.{BadDate, AboveClear}
 use Rattle.day.specs.declared.Verdict.the-variants.{Figure, Refused, Estimated}
-use Rattle.lines.specs.Text.{newline, leading, digits, padded, inches, verdictText, dayLine}
+use Rattle.lines.specs.Text.{newline, leading, digits, padded, inches, verdictText, dayLine, totals, monthLine, seasonLine}
 
 -- 3,518 and 123,456 ten-thousandths: `0.3518` and `12.3456`
 pub figures : (inches 3_518 ≡ 48 ∷ 46 ∷ 51 ∷ 53 ∷ 49 ∷ 56 ∷ []) × (inches 123_456 ≡ 49 ∷ 50 ∷ 46 ∷ 51 ∷ 52 ∷ 53 ∷ 54 ∷ [])
@@ -36,3 +37,16 @@ pub least : dayLine lidw 2008 366 (Estimated 1) ≡
     76 ∷ 73 ∷ 68 ∷ 87 ∷ 32 ∷ 50 ∷ 48 ∷ 48 ∷ 56 ∷ 32 ∷ 51 ∷ 54 ∷ 54 ∷ 32 ∷ 48 ∷ 46 ∷ 48 ∷ 48 ∷ 48 ∷ 49 ∷ 32 ∷ 69 ∷ newline ∷ []
 unfolding dayLine verdictText inches padded digits leading
 least = refl
+
+-- a refusal of two digits: `R10`
+pub ten : verdictText (Refused AboveClear) ≡ 82 ∷ 49 ∷ 48 ∷ []
+unfolding verdictText digits leading
+ten = refl
+
+-- "days answered" of two digits and of three (02, W5): `LIDW 2008 12 31 12.3456`, `LIDW ALL 366 12.3456`
+pub many-days : (monthLine lidw 2008 12 31 123_456 ≡
+    76 ∷ 73 ∷ 68 ∷ 87 ∷ 32 ∷ 50 ∷ 48 ∷ 48 ∷ 56 ∷ 32 ∷ 49 ∷ 50 ∷ 32 ∷ 51 ∷ 49 ∷ 32 ∷ 49 ∷ 50 ∷ 46 ∷ 51 ∷ 52 ∷ 53 ∷ 54 ∷ newline ∷ [])
+    × (seasonLine lidw 366 123_456 ≡
+    76 ∷ 73 ∷ 68 ∷ 87 ∷ 32 ∷ 65 ∷ 76 ∷ 76 ∷ 32 ∷ 51 ∷ 54 ∷ 54 ∷ 32 ∷ 49 ∷ 50 ∷ 46 ∷ 51 ∷ 52 ∷ 53 ∷ 54 ∷ newline ∷ [])
+unfolding monthLine seasonLine totals inches padded digits leading
+many-days = (refl, refl)
