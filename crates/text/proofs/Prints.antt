@@ -1,7 +1,7 @@
 -- From a text that is written from the front, or found too long, to what is owed for it. Assumes nothing.
 use mathlib.Core.Path.{_≡_, refl, sym, ap, _∙_, subst}
 use mathlib.Core.Bool.{Bool, true, false, cond}
-use mathlib.Core.List.{List, _++_}
+use mathlib.Core.List.{List, [], _∷_, _++_}
 use Prim.Native.Nat.{ℕ, _+_, _≤_, _<_}
 use native.Mathlib.Omega.{arith}
 use borrow.Author.Tests.{lt-ltb, le-ltb}
@@ -9,7 +9,7 @@ use lib.Dec.{ltb}
 use lib.ListN.{length, drop, length-append, length-drop}
 use Rattle.records.proofs.Choice.{by-cond}
 use Rattle.answers.proofs.Overwriting.{laid-front}
-use Rattle.text.specs.Report.{Prints, printedIn}
+use Rattle.text.specs.Report.{Prints, printedIn, textOver}
 use Rattle.lines.specs.Text.{header}
 use Rattle.text.specs.Walk.{Laid}
 use Rattle.lines.specs.Written.{Written, AtFront}
@@ -45,6 +45,10 @@ just-enough text = ap (toldBy text text) (le-ltb (length text) (length text) (om
 
 pub one-less : (text : List ℕ) (size : ℕ) → size + 1 ≡ length text → printedIn size text ≡ printed.Needs (length text)
 one-less text size e = ap (toldBy text text) (lt-ltb size (length text) (omega (arith, e)))
+
+-- the text stands at the front and later bytes are as they were; so is every byte of a buffer that is too short
+pub laid : (textOver (9 ∷ 9 ∷ 9 ∷ []) (65 ∷ 66 ∷ []) ≡ 65 ∷ 66 ∷ 9 ∷ []) × (textOver (9 ∷ []) (65 ∷ 66 ∷ []) ≡ 9 ∷ [])
+laid = (refl, refl)
 
 -- ---- the number that is returned
 

@@ -1,18 +1,23 @@
 -- Reports worked out from the log's bytes to the last newline: document 01's, with its four lines and the two of its totals; the same log cut off; the same with an answer
--- buffer that is one byte too short; that of a log of 0 bytes; that of a log with a crop; and that of a log with a day without its
--- dew point. Assumes nothing.
+-- buffer that is one byte too short; that of a log of 0 bytes; that of a log with a crop; that of a log with a day without its
+-- dew point; and that of a log of two stations. Assumes nothing.
 use mathlib.Core.Path.{_≡_, refl, ap, _∙_, subst}
 use mathlib.Core.List.{List, [], _∷_, _++_}
 use mathlib.Core.Bool.{cond}
 use Prim.Native.Nat.{ℕ}
 use lib.Dec.{ltb}
-use lib.ListN.{length, take}
+use lib.ListN.{length, take, drop}
 use Rattle.answers.specs.Answers.{bytesOf}
 use Rattle.answers.specs.declared.Answer.{Answer}
+use Rattle.answers.specs.declared.Answer.the-variants as answer
 use Rattle.crops.specs.Crop.{badCrop}
 use Rattle.records.specs.Bytes.{wordAt, signedOf, signedAt}
 use Rattle.records.specs.Record.{stationAt, dayAt, cropAt, recordAt}
-use Rattle.day.specs.Calendar.{yearLength}
+use Rattle.day.specs.Calendar.{yearLength, isDate}
+use Rattle.day.specs.Judgement.{holds, standingOf, lacksDewPoint, asJudged, judged}
+use Rattle.day.specs.declared.Refusal.the-variants.{Missing}
+use Rattle.day.specs.declared.Verdict.the-variants.{Refused}
+use Rattle.log.specs.History.{daysBefore, goodDate, counted, earlierMeans, verdictOf}
 use Rattle.tables.specs.Values.{first}
 use Rattle.totals.specs.Months.{daysBy, monthOf}
 use Rattle.log.specs.Log.{answersTo, readFrom, readingOf, outcomeOf}
@@ -25,6 +30,7 @@ use Rattle.text.specs.Report.{linesOf, textOf, reportOf}
 use Rattle.text.specs.Walk.{wholeReport, Ordered}
 use Rattle.text.proofs.DateOrder.{answers-ordered}
 use Rattle.text.proofs.InTurn.{linesInTurn, lines-in-turn}
+use Rattle.promises.proofs.Sample.{fields, station, windless}
 use Rattle.lines.specs.Text.{totals, monthLine, seasonLine, newline, leading, digits, padded, inches, verdictText, header, dayLine, cropLine, refusedLine}
 
 -- the months of a log's answers are in date order
@@ -114,3 +120,26 @@ pub with-estimate : wholeReport estimateLog ≡
     ++ lidwSeason (49 ∷ []) (48 ∷ 46 ∷ 48 ∷ 48 ∷ 48 ∷ 48 ∷ [])
 unfolding wholeReport reportOf outcomeOf readingOf readFrom recordAt stationAt dayAt cropAt wordAt signedOf signedAt badCrop dayLine cropLine padded verdictText inches digits leading monthLine seasonLine totals monthOf first daysBy yearLength
 with-estimate = (λ i. told (estimate-worked i)) ∙ in-turn estimateLog estimate-worked
+
+-- ---- two stations
+
+-- LIDX and LIDW, with a day each that lacks the wind
+abbrev twoCodes : List ℕ
+twoCodes = (1 ∷ 76 ∷ 73 ∷ 68 ∷ 88 ∷ drop 4 fields) ++ windless 10 0 200 ++ station ++ windless 11 0 200
+
+codes-worked : answersTo twoCodes ≡
+    answer.Station (stationAt twoCodes 1 .code) ∷ answer.Day 2008 10 (Refused Missing)
+    ∷ answer.Station (stationAt twoCodes 37 .code) ∷ answer.Day 2008 11 (Refused Missing)
+    ∷ []
+unfolding readingOf readFrom recordAt stationAt dayAt wordAt signedOf signedAt isDate yearLength daysBefore goodDate counted earlierMeans verdictOf judged lacksDewPoint asJudged standingOf holds
+codes-worked = refl
+
+-- each line has its own block's code: `LIDX 2008 010 R7`, `LIDX ALL 0 0.0000`, `LIDW 2008 011 R7`, `LIDW ALL 0 0.0000`
+pub two-codes : wholeReport twoCodes ≡
+    header
+    ++ (76 ∷ 73 ∷ 68 ∷ 88 ∷ 32 ∷ 50 ∷ 48 ∷ 48 ∷ 56 ∷ 32 ∷ 48 ∷ 49 ∷ 48 ∷ 32 ∷ 82 ∷ 55 ∷ newline ∷ [])
+    ++ (76 ∷ 73 ∷ 68 ∷ 88 ∷ 32 ∷ 65 ∷ 76 ∷ 76 ∷ 32 ∷ 48 ∷ 32 ∷ 48 ∷ 46 ∷ 48 ∷ 48 ∷ 48 ∷ 48 ∷ newline ∷ [])
+    ++ lidw (48 ∷ 49 ∷ 49 ∷ []) missing
+    ++ lidwSeason (48 ∷ []) (48 ∷ 46 ∷ 48 ∷ 48 ∷ 48 ∷ 48 ∷ [])
+unfolding wholeReport reportOf outcomeOf readingOf readFrom recordAt stationAt dayAt wordAt signedOf signedAt dayLine padded verdictText inches digits leading monthLine seasonLine totals
+two-codes = (λ i. told (codes-worked i)) ∙ in-turn twoCodes codes-worked
