@@ -58,6 +58,14 @@ apart : Near (inches 0) (inches 3_518) (6 /ℚ 100000 +ℚ 6 /ℚ 100000) → �
 unfolding _*ℚ_ _+ℚ_ -ℚ_ nonneg
 apart h = absurd (h .low .le)
 
+-- nor are 0.3520 and 0.3518 inch: a figure that is two units from the right one is beyond the bound. With one of 10/100,000 or more it would not be.
+two-apart : Near (inches 3_520) (inches 3_518) (6 /ℚ 100000 +ℚ 6 /ℚ 100000) → ⊥
+unfolding _*ℚ_ _+ℚ_ -ℚ_ nonneg
+two-apart h = absurd (h .high .le)
+
+pub not-two-off : WithinBound station (asJudged summerDay) summerMeans 3_520 → ⊥
+not-two-off w = two-apart (two-figures station (asJudged summerDay) summerMeans constants (days .1 .answered) 3_520 3_518 w (days .1 .bound))
+
 module _ (judge : Station → Day → Earlier → Verdict) (met : JudgesWithinBound judge) where
   owed : (n : ℕ) × (judge station summerDay summerMeans ≡ withMark summerDay n) × WithinBound station (asJudged summerDay) summerMeans n
   unfolding JudgesWithinBound FigureOwed
