@@ -2,7 +2,6 @@
 pub mod Calendar
 pub mod StateOf
 pub mod Means
-pub mod Examples
 pub mod Planted
 pub mod SoundStation
 pub mod Turns
@@ -17,6 +16,7 @@ pub mod Counted
 pub mod Longest
 pub mod OutcomeSize
 pub mod DateOrder
+pub mod Examples
 pub mod Sample
 pub mod Edges
 pub mod WorkedRules

@@ -21,7 +21,7 @@ use Rattle.log.specs.History.{daysBefore, goodDate, counted, earlierMeans, verd
 use Rattle.tables.specs.Values.{first}
 use Rattle.totals.specs.Months.{daysBy, monthOf}
 use Rattle.log.specs.Log.{answersTo, readFrom, readingOf, outcomeOf}
-use Rattle.log.proofs.Sample.{sample}
+use Rattle.log.proofs.Sample.{sample, fields, station, windless}
 use Rattle.log.specs.declared.Outcome.the-variants as outcome
 use Rattle.promises.proofs.WorkedLog.{worked}
 use Rattle.promises.proofs.WorkedCrop.{cropLog, worked as crop-worked}
@@ -30,7 +30,6 @@ use Rattle.text.specs.Report.{linesOf, textOf, reportOf}
 use Rattle.text.specs.Walk.{wholeReport, Ordered}
 use Rattle.text.proofs.DateOrder.{answers-ordered}
 use Rattle.text.proofs.InTurn.{linesInTurn, lines-in-turn}
-use Rattle.promises.proofs.Sample.{fields, station, windless}
 use Rattle.lines.specs.Text.{totals, monthLine, seasonLine, newline, leading, digits, padded, inches, verdictText, header, dayLine, cropLine, refusedLine}
 
 -- the months of a log's answers are in date order
