@@ -9,6 +9,7 @@ use Rattle.sheet.specs.StepSheet as sheet
 use Rattle.day.specs.Calendar.{yearLength, isDate}
 use Rattle.day.specs.Rules.{numberOf}
 use Rattle.day.specs.Judgement.{clearOf, holds, standingOf, lacksDewPoint, asJudged}
+use Rattle.day.specs.declared.Code.{Code}
 use Rattle.day.specs.declared.Station.{Station}
 use Rattle.day.specs.declared.Day.{Day}
 use Rattle.day.specs.declared.Mean.{Mean}
@@ -30,20 +31,23 @@ refusedWith st day earlier = numberIn (standingOf st (asJudged day) earlier)
 
 -- ---- stations, days and earlier means
 
--- document 01's LIDW, but for the first letter, the clear-day minimum, the elevation and the wind limit
+-- a station by its letters, its constants, and its minimum, elevation and limit; document 01's LIDW has these letters and constants
+abbrev stationOf : Code → ℤ → ℤ → ℤ → ℤ → ℤ → ℕ → ℕ → ℕ → Station
+stationOf code c1 c2 c3 c4 c5 minimum elevation limit =
+    record { code = code; c1 = c1; c2 = c2; c3 = c3; c4 = c4; c5 = c5; minimum = minimum; elevation = elevation; limit = limit }
+
+abbrev spelling : ℕ → ℕ → ℕ → ℕ → Code
+spelling first second third fourth = record { first = first; second = second; third = third; fourth = fourth }
+
+abbrev withCode : Code → ℕ → ℕ → ℕ → Station
+withCode code = stationOf code (pos 154) (pos 1_760) (pos 614) (negsuc 395) (pos 590)
+
+abbrev LIDW : Code
+LIDW = spelling 76 73 68 87
+
+-- LIDW, but for the first letter, the clear-day minimum, the elevation and the wind limit
 abbrev pub lidwWith : ℕ → ℕ → ℕ → ℕ → Station
-lidwWith letter minimum elevation limit =
-    record {
-      code = record { first = letter; second = 73; third = 68; fourth = 87 };
-      c1 = pos 154;
-      c2 = pos 1_760;
-      c3 = pos 614;
-      c4 = negsuc 395;
-      c5 = pos 590;
-      minimum = minimum;
-      elevation = elevation;
-      limit = limit;
-    }
+lidwWith letter = withCode (spelling letter 73 68 87)
 
 -- with kind 1's limit
 abbrev station : ℕ → ℕ → ℕ → Station
@@ -54,72 +58,28 @@ lidw = station 76 100 497
 
 -- one with a clear day of 500 cal/cm²/d all year
 abbrev even : Station
-even =
-    record {
-      code = record { first = 76; second = 73; third = 68; fourth = 87 };
-      c1 = pos 500;
-      c2 = pos 0;
-      c3 = pos 0;
-      c4 = pos 0;
-      c5 = pos 0;
-      minimum = 100;
-      elevation = 497;
-      limit = routineLimit;
-    }
+even = stationOf LIDW (pos 500) (pos 0) (pos 0) (pos 0) (pos 0) 100 497 routineLimit
 
--- one without a clear day of its own: the minimum, 100 cal/cm²/d, stands for it
-abbrev dim : Station
-dim =
-    record {
-      code = record { first = 76; second = 73; third = 68; fourth = 87 };
-      c1 = pos 0;
-      c2 = pos 0;
-      c3 = pos 0;
-      c4 = pos 0;
-      c5 = pos 0;
-      minimum = 100;
-      elevation = 497;
-      limit = routineLimit;
-    }
-
--- one whose c1 to c5 are all the same number
+-- one whose c1 to c5 are all the same number; and one without a clear day of its own: the minimum, 100 cal/cm²/d, stands for it
 abbrev constant : ℤ → Station
-constant c =
-    record {
-      code = record { first = 76; second = 73; third = 68; fourth = 87 };
-      c1 = c;
-      c2 = c;
-      c3 = c;
-      c4 = c;
-      c5 = c;
-      minimum = 100;
-      elevation = 497;
-      limit = routineLimit;
-    }
+constant c = stationOf LIDW c c c c c 100 497 routineLimit
+
+abbrev dim : Station
+dim = constant (pos 0)
 
 -- LIDW with other letters than its first
 abbrev spelt : ℕ → ℕ → ℕ → Station
-spelt second third fourth =
-    record {
-      code = record { first = 76; second = second; third = third; fourth = fourth };
-      c1 = pos 154;
-      c2 = pos 1_760;
-      c3 = pos 614;
-      c4 = negsuc 395;
-      c5 = pos 590;
-      minimum = 100;
-      elevation = 497;
-      limit = routineLimit;
-    }
+spelt second third fourth = withCode (spelling 76 second third fourth) 100 497 routineLimit
 
--- a day at any date, the wind missing
-abbrev windless : ℕ → ℕ → Day
-windless year d =
-    record { year = year; d = d; maximum = pos 320; minimum = pos 320; mean = pos 320; dewpoint = pos 320; radiation = pos 0; wind = negsuc 32_767 }
+-- a dark day at any date with any wind run; without wind, and with its reading missing
+abbrev darkDay : ℤ → ℕ → ℕ → Day
+darkDay wind year d = record { year = year; d = d; maximum = pos 320; minimum = pos 320; mean = pos 320; dewpoint = pos 320; radiation = pos 0; wind = wind }
 
--- a dark day at any date
 abbrev dated : ℕ → ℕ → Day
-dated year d = record { year = year; d = d; maximum = pos 320; minimum = pos 320; mean = pos 320; dewpoint = pos 320; radiation = pos 0; wind = pos 0 }
+dated = darkDay (pos 0)
+
+abbrev windless : ℕ → ℕ → Day
+windless = darkDay (negsuc 32_767)
 
 -- day 180 of 2008 with any readings: maximum, minimum, mean, dew point, radiation and wind; and a summer's, but for one of them
 abbrev reading : ℤ → ℤ → ℤ → ℤ → ℤ → ℤ → Day

@@ -4,7 +4,7 @@ use mathlib.Core.Path.{_≡_, refl, sym, ap, subst, _∙_}
 use mathlib.Core.List.{List}
 use Prim.Native.Nat.{ℕ, _+_, _*_, _/_, _%_}
 use native.Mathlib.Omega.{arith}
-use lib.ListN.{getD, length, replicate, take, drop}
+use lib.ListN.{getD, replicate, take, drop}
 use Rattle.numbers.specs.Fractions.{_+ℚ_, -ℚ_, _*ℚ_, _/ℚ_, nonneg, Near}
 use Rattle.numbers.proofs.Near.{near-trans, near-sym}
 use Rattle.day.specs.Judgement.{asJudged, withMark}
