@@ -40,8 +40,12 @@ const ROWS: [(&str, &[&str]); 7] = [
         &["promises::read_log CropFiguresOwed"],
     ),
     (
-        "and the report: `Prints`, `reportOf`",
-        &["text::write_report Prints", "text::write_report reportOf"],
+        "and the report: `Prints`, `reportOf`, `ReportOwed`",
+        &[
+            "text::write_report Prints",
+            "text::write_report reportOf",
+            "text::write_report ReportOwed",
+        ],
     ),
 ];
 

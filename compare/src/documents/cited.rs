@@ -1,5 +1,5 @@
-//! The names that documents cite in backticks: a path is one of the repository's, and any other name is one that a source
-//! has.
+//! The names that documents cite in backticks: a path is one of the repository's, a name that is said to stand in a file stands
+//! there, and any other name is one that a source has.
 use super::definitions::words;
 use super::{lines_of, text, Checked, Files, DOCUMENTS};
 use std::collections::BTreeSet;
@@ -9,18 +9,59 @@ pub fn check(files: &Files) -> Checked {
     let (mut faults, mut count) = (Vec::new(), 0);
     for path in DOCUMENTS {
         for (line, name) in spans(text(files, path)) {
-            if is_name(name) {
-                count += 1;
-                if !alternatives(name)
+            let is_there = if let Some((file, name)) = in_a_file(name) {
+                stands_in(files, file, name)
+            } else if is_name(name) {
+                alternatives(name)
                     .iter()
                     .all(|it| is_known(files, &known, it))
-                {
-                    faults.push(format!("{path}:{line}: no such name or path: {name}"));
-                }
+            } else {
+                continue;
+            };
+            count += 1;
+            if !is_there {
+                faults.push(format!("{path}:{line}: no such name or path: {name}"));
+            }
+        }
+        for (line, file, name) in placed(text(files, path)) {
+            count += 1;
+            let there = format!("/{file}");
+            let is_there = |path: &str| format!("/{path}").ends_with(&there);
+            let mut such = files.iter().filter(|(path, _)| is_there(path));
+            if !such.any(|it| names_in(it).contains(name)) {
+                faults.push(format!("{path}:{line}: {file} has no such name: {name}"));
             }
         }
     }
     (faults, count)
+}
+
+/// The names that are said to stand in a file: `File.antt`: `name`, `name`; and `name` in `path/File.antt`.
+fn placed(document: &str) -> Vec<(usize, &str, &str)> {
+    let is_source = |span: &str| span.ends_with(".antt") || span.ends_with(".rt");
+    let is_word = |span: &str| is_name(span) && !span.contains(['/', ':', '{', '.']);
+    let mut found = Vec::new();
+    for (number, block, line) in lines_of(document) {
+        let parts: Vec<&str> = line.split('`').collect();
+        let spans = (1..parts.len()).step_by(2).filter(|_| block.is_none());
+        let mut file = "";
+        for at in spans {
+            let (before, span) = (parts[at - 1], parts[at]);
+            file = match before {
+                ": " if at > 2 && is_source(parts[at - 2]) => parts[at - 2],
+                ", " => file,
+                _ => "",
+            };
+            if !file.is_empty() && is_word(span) {
+                found.push((number, file, span));
+            }
+            if before == " in " && is_source(span) && !span.contains('{') && is_word(parts[at - 2])
+            {
+                found.push((number, span, parts[at - 2]));
+            }
+        }
+    }
+    found
 }
 
 /// What stands in backticks outside of blocks, with the number of its line.
@@ -47,6 +88,30 @@ fn is_name(span: &str) -> bool {
     let is_literal = span.contains(|it: char| it.is_whitespace() || "=()[]<>&?\"$|".contains(it));
     let is_exempt = NO_NAMES.iter().any(|it| span.starts_with(it));
     letters >= 2 && !is_pattern && !is_literal && !is_exempt
+}
+
+/// `day/Edges: edges` is a name with its file, and the crate where others have such a file too.
+fn in_a_file(span: &str) -> Option<(&str, &str)> {
+    let (file, name) = span.split_once(": ")?;
+    let is_file = |it: char| it.is_alphanumeric() || it == '/';
+    let named = file.chars().all(is_file) && !name.contains(char::is_whitespace);
+    named.then_some((file, name))
+}
+
+/// One file of proofs/ or specs/ has the name; where no crate is given, only one crate has such a file.
+fn stands_in(files: &Files, file: &str, name: &str) -> bool {
+    let (in_crate, file) = file.rsplit_once('/').unwrap_or(("", file));
+    let ending = format!("/{file}.antt");
+    let such = files.iter().filter(|(path, _)| {
+        path.ends_with(&ending) && path.starts_with(&format!("crates/{in_crate}"))
+    });
+    let such: Vec<_> = such.collect();
+    let crates: BTreeSet<_> = such
+        .iter()
+        .map(|(path, _)| path.split('/').nth(1))
+        .collect();
+    let has = |text: &str| text.lines().flat_map(words).any(|word| word == name);
+    crates.len() == 1 && such.iter().any(|(_, text)| has(text))
 }
 
 /// `a/{b,c}.antt` cites two.
@@ -88,7 +153,7 @@ fn names_in<'a>((path, text): (&'a String, &'a String)) -> BTreeSet<&'a str> {
 
 #[cfg(test)]
 mod tests {
-    use super::{check, is_name, spans};
+    use super::{check, is_name, placed, spans};
     use crate::documents::files;
 
     #[test]
@@ -103,18 +168,33 @@ mod tests {
     }
 
     #[test]
+    fn names_that_are_said_to_stand_in_a_file() {
+        let text =
+            "`A.antt`: `ab`, `cd`; `ef`, `B.antt`\n\n`gh` in `a/src/b.rt`, `ij` in `A.antt`: `kl`";
+        let expected = [
+            (1, "A.antt", "ab"),
+            (1, "A.antt", "cd"),
+            (3, "a/src/b.rt", "gh"),
+            (3, "A.antt", "ij"),
+            (3, "A.antt", "kl"),
+        ];
+        assert_eq!(placed(text), expected);
+    }
+
+    #[test]
     fn names_are_found_in_the_code_and_in_the_paths() {
         let found =
             "`worked-day`, `log::step::start`, `step/step`, `crates/log/specs/`, `Log.antt`,\n\
-            `log/specs/{Log,Walk}.antt`, `as_three`";
-        let missing =
-            "`said`, `log::lib::start`, `step/start`, `Day.antt`, `log/specs/{Log,Day}.antt`";
+            `log/specs/{Log,Walk}.antt`, `as_three`, `Log: worked-day`, `log/Walk: step`";
+        let missing = "`said`, `log::lib::start`, `step/start`, `Day.antt`, \
+            `log/specs/{Log,Day}.antt`, `Log: step`, `Walk: step`";
         let files = files(&[
             ("README.md", &format!("{found}\n\n{missing}\n")),
             ("crates/log/must-fail/as_three.edit", "new: said"),
             ("crates/log/proofs/step/step/Proof.antt", ""),
             ("crates/log/specs/Log.antt", "pub worked-day : Day -- said"),
-            ("crates/log/specs/Walk.antt", ""),
+            ("crates/log/specs/Walk.antt", "pub step : ℕ"),
+            ("crates/text/specs/Walk.antt", "pub step : ℕ"),
             ("crates/log/src/lib.rt", "// said"),
             ("crates/log/src/step.rt", "pub fn start() {}"),
         ]);
@@ -122,6 +202,6 @@ mod tests {
         let named = missing.split(", ").map(|it| it.trim_matches('`'));
         let expected = named.map(|it| format!("README.md:4: no such name or path: {it}"));
         assert_eq!(faults, expected.collect::<Vec<_>>());
-        assert_eq!(count, 12);
+        assert_eq!(count, 16);
     }
 }
