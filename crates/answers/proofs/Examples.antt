@@ -1,4 +1,4 @@
--- The bytes of an answer of each kind, of numbers whose bytes all differ. Assumes nothing.
+-- The bytes of an answer of each kind, of dates and figures whose bytes all differ. Assumes nothing.
 use mathlib.Core.Path.{_≡_, refl}
 use mathlib.Core.List.{[], _∷_}
 use Rattle.day.specs.declared.Code.{Code}
@@ -14,18 +14,18 @@ code = record { first = 76; second = 73; third = 68; fourth = 87 }
 pub station : answerBytes (answer.Station code) ≡ 5 ∷ 76 ∷ 73 ∷ 68 ∷ 87 ∷ []
 station = refl
 
--- "kind 3, year, `d`, figure in four bytes", the high byte first: 16,909,060 is 1, 2, 3 and 4
-pub figure : answerBytes (answer.Day 2008 366 (Figure 16_909_060)) ≡ 3 ∷ 7 ∷ 216 ∷ 1 ∷ 110 ∷ 1 ∷ 2 ∷ 3 ∷ 4 ∷ []
+-- "kind 3, year, `d`, figure in four bytes", the high byte first: 33,752,069 is 2, 3, 4 and 5
+pub figure : answerBytes (answer.Day 2008 366 (Figure 33_752_069)) ≡ 3 ∷ 7 ∷ 216 ∷ 1 ∷ 110 ∷ 2 ∷ 3 ∷ 4 ∷ 5 ∷ []
 figure = refl
 
 -- "kind 4, year, `d`, refusal in four bytes"; the date is the record's own, good or not
-pub refusal : answerBytes (answer.Day 65_535 258 (Refused BadDate)) ≡ 4 ∷ 255 ∷ 255 ∷ 1 ∷ 2 ∷ 0 ∷ 0 ∷ 0 ∷ 6 ∷ []
+pub refusal : answerBytes (answer.Day 65_534 258 (Refused BadDate)) ≡ 4 ∷ 255 ∷ 254 ∷ 1 ∷ 2 ∷ 0 ∷ 0 ∷ 0 ∷ 6 ∷ []
 refusal = refl
 
 -- "kind 9 with the body of kind 3" (02, W4)
-pub estimate : answerBytes (answer.Day 2008 366 (Estimated 16_909_060)) ≡ 9 ∷ 7 ∷ 216 ∷ 1 ∷ 110 ∷ 1 ∷ 2 ∷ 3 ∷ 4 ∷ []
+pub estimate : answerBytes (answer.Day 2008 366 (Estimated 33_752_069)) ≡ 9 ∷ 7 ∷ 216 ∷ 1 ∷ 110 ∷ 2 ∷ 3 ∷ 4 ∷ 5 ∷ []
 estimate = refl
 
 -- "a kind 7 answer (the crop's capitals, figure in four bytes)" (02, W1)
-pub crop : answerBytes (answer.Crop code 16_909_060) ≡ 7 ∷ 76 ∷ 73 ∷ 68 ∷ 87 ∷ 1 ∷ 2 ∷ 3 ∷ 4 ∷ []
+pub crop : answerBytes (answer.Crop code 33_752_069) ≡ 7 ∷ 76 ∷ 73 ∷ 68 ∷ 87 ∷ 2 ∷ 3 ∷ 4 ∷ 5 ∷ []
 crop = refl

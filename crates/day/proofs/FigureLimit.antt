@@ -5,8 +5,7 @@ use Prim.Native.Nat.{ℕ}
 use native.Mathlib.Omega.{arith}
 use Rattle.equation.proofs.FigureLimit as sheet-limit
 use Rattle.day.specs.Judgement.{readingsOf, entriesOf, clearOf, meansOf, earlierOf, figureOf, standingOf, asJudged, withMark, verdictWith, judged}
-use Rattle.day.specs.Bound.{SignedConstants}
-use Rattle.day.specs.Parts.{FigureAtMost, FigureInRange}
+use Rattle.day.specs.Bound.{SignedConstants, FigureAtMost, FigureInRange}
 use Rattle.day.specs.declared.Station.{Station}
 use Rattle.day.specs.declared.Day.{Day}
 use Rattle.day.specs.declared.Earlier.{Earlier}

@@ -54,7 +54,7 @@ figureIn (Refused r) = 0
 figureIn (Estimated n) = n
 
 -- 0 and 0.3518 inch are not that near
-apart : Near (inches 0) (inches 3_518) (6 /ℚ 100000 +ℚ 6 /ℚ 100000) → ⊥
+pub apart : Near (inches 0) (inches 3_518) (6 /ℚ 100000 +ℚ 6 /ℚ 100000) → ⊥
 unfolding _*ℚ_ _+ℚ_ -ℚ_ nonneg
 apart h = absurd (h .low .le)
 

@@ -2,7 +2,7 @@
 -- sharper: 5.15/100,000. Assumes nothing.
 use mathlib.Core.List.{List, [], _∷_}
 use mathlib.Core.Path.{_≡_}
-use Prim.Native.Nat.{ℕ}
+use Prim.Native.Nat.{ℕ, _≤_}
 use lib.IntN.{pos}
 use Rattle.numbers.specs.Ranges.{InRange}
 use Rattle.numbers.specs.Fractions.{ℚ, fromℤ, _/ℚ_, _-ℚ_, _*ℚ_, _≤ℚ_, absℚ}
@@ -20,6 +20,8 @@ use Rattle.day.specs.declared.Mean.{Mean}
 use Rattle.day.specs.declared.Mean.the-variants.{Present, Absent}
 use Rattle.day.specs.declared.Earlier.{Earlier}
 use Rattle.day.specs.declared.Verdict.{Verdict}
+use Rattle.sheet.specs.Quantities.{largestFigure}
+use Rattle.day.specs.declared.Verdict.the-variants.{Figure, Refused, Estimated}
 
 -- "the earlier means present", in °F: of the three calendar days before, those that have one
 abbrev pub ifPresent : Mean → List ℚ → List ℚ
@@ -95,3 +97,13 @@ FigureOwed st day earlier verdict =
 -- the demand, over any judge of days
 unfoldable pub JudgesWithinBound : (Station → Day → Earlier → Verdict) → Type 0
 JudgesWithinBound judge = (st : Station) (day : Day) (earlier : Earlier) → SignedConstants st → FigureOwed st day earlier (judge st day earlier)
+
+-- the figure of a verdict that has one, marked or not, is at most so much
+abbrev pub FigureAtMost : ℕ → Verdict → Type 0
+FigureAtMost most (Figure n) = n ≤ most
+FigureAtMost most (Refused r) = Unit {0}
+FigureAtMost most (Estimated n) = n ≤ most
+
+-- no figure is above the largest that the sheet's own range has: 150,000 ten-thousandths of an inch
+abbrev pub FigureInRange : Verdict → Type 0
+FigureInRange = FigureAtMost largestFigure

@@ -3,7 +3,7 @@
 ghost use mathlib.Core.Path.{_≡_};
 ghost use Rattle.tables.specs.Tables.{DayTables, PressureTable};
 ghost use Rattle.day.specs.Bound.{FigureOwed};
-ghost use Rattle.day.specs.Parts.{FigureInRange};
+ghost use Rattle.day.specs.Bound.{FigureInRange};
 ghost use Rattle.day.specs.Judgement.{Answered, figureOf, judged};
 use crate::Day;
 use crate::Earlier;

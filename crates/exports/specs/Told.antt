@@ -61,6 +61,6 @@ FigureSaid st x earlier r =
 unfoldable pub LengthSaid : List ℕ → List ℕ → ℕ → Type 0
 LengthSaid s buffer r = AnsweredLog s buffer → (n : ℕ) × (saidBy r ≡ accepted n)
 
--- of the number returned for such a log's report: what it says is printed is the report, and no line of a refusal
+-- of the number returned for such a log's report: it says the length of the report, or 12 and the length needed, and not those of a refusal's line
 unfoldable pub ReportSaid : List ℕ → List ℕ → List ℕ → ℕ → List ℕ → Type 0
 ReportSaid s buffer before r after = (p : Printed) × (saidBy r ≡ printedSaid p) × ReportOwed s buffer before p after

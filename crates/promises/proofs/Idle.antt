@@ -1,5 +1,6 @@
--- Idle readers of logs that demand 3 stops by itself ("Which idle programs must be caught?" in document 01): one that leaves the buffer blank, one
--- that says 12 untried, whatever it leaves, and one that copies its first day's figure to later days. Assumes nothing.
+-- Idle readers of logs that demand 3 stops by itself ("Which idle programs must be caught?" in document 01): one that refuses all days, one that prints 0
+-- for all, one that leaves the buffer blank, one that copies its first day's figure to later days, and one that says 12 untried, whatever it leaves.
+-- Assumes nothing.
 use mathlib.Core.Path.{_≡_, refl, sym, ap, subst, _∙_}
 use mathlib.Core.List.{List}
 use Prim.Native.Nat.{ℕ, _+_, _*_, _/_, _%_}
@@ -7,13 +8,14 @@ use native.Mathlib.Omega.{arith}
 use lib.ListN.{getD, replicate, take, drop}
 use Rattle.numbers.specs.Fractions.{_+ℚ_, -ℚ_, _*ℚ_, _/ℚ_, nonneg, Near}
 use Rattle.numbers.proofs.Near.{near-trans, near-sym}
+use Rattle.day.specs.Bound.{WithinBound}
 use Rattle.day.specs.Judgement.{asJudged, withMark}
 use Rattle.day.specs.declared.Day.{Day}
 use Rattle.day.specs.declared.Earlier.{Earlier}
 use Rattle.day.specs.declared.Station.{Station}
 use Rattle.day.specs.declared.Verdict.{Verdict}
 use Rattle.day.proofs.Examples.{constants, days}
-use Rattle.day.proofs.Idle.{inches, two-figures}
+use Rattle.day.proofs.Idle.{inches, two-figures, apart}
 use Rattle.day.proofs.Marks.{either-way}
 use Rattle.answers.specs.Answers.{kindOf, dated}
 use Rattle.records.specs.Bytes.{wordAt, signedOf, signedAt}
@@ -34,9 +36,9 @@ accepted-there : AnsweredLog sample blank
 unfolding AnsweredLog outcomeOf readingOf readFrom recordAt stationAt dayAt wordAt signedOf signedAt
 accepted-there = (32, refl)
 
--- 0 is the kind of no answer
-no-kind : (x : Day) (n : ℕ) → _≡_ {A = ℕ} 0 (kindOf (withMark x n)) → ⊥
-no-kind x n = either-way (λ v. _≡_ {A = ℕ} 0 (kindOf v) → ⊥) x {n = n} (λ e. absurd (omega (arith, e))) (λ e. absurd (omega (arith, e)))
+-- an answered day's answer is of kind 3 or 9
+no-other : (k : ℕ) → (k ≡ 3 → ⊥) → (k ≡ 9 → ⊥) → (x : Day) (n : ℕ) → k ≡ kindOf (withMark x n) → ⊥
+no-other k three nine x n = either-way (λ v. k ≡ kindOf v → ⊥) x {n = n} three nine
 
 -- 1 for a log that is written, 0 for one that is refused
 abbrev written : Outcome → ℕ
@@ -66,13 +68,21 @@ not-both n a b = computed (near-trans (near-sym a) b)
 
 module _ (returned : List ℕ → List ℕ → Outcome) (left : List ℕ → List ℕ → List ℕ) (judge : Station → Day → Earlier → Verdict)
     (met : EveryFigureWithinBound returned left judge) where
-  -- "one leaving the buffer blank"
-  pub not-blank : left sample blank ≡ blank → ⊥
+  -- the kind in the answer of the worked log's third day is no other
+  kind-there : (k : ℕ) → (k ≡ 3 → ⊥) → (k ≡ 9 → ⊥) → k ≡ getD (take 9 (drop 23 (left sample blank))) 0 0 → ⊥
   unfolding EveryFigureWithinBound FiguresOwed FigureAt
-  not-blank same =
+  kind-there k three nine is =
       let owed = met .0 sample blank .1 accepted-there 3 23 (stationAt sample 1) (dayAt sample 54) means answered in
-      no-kind (dayAt sample 54) (owed .0)
-      (ap (λ (l : List ℕ). getD (take 9 (drop 23 l)) 0 0) (sym same) ∙ ap (λ (l : List ℕ). getD l 0 0) (owed .1))
+      no-other k three nine (dayAt sample 54) (owed .0) (is ∙ ap (λ (l : List ℕ). getD l 0 0) (owed .1))
+
+  -- "One refusing all days": 4 is the kind of a refusal
+  pub not-all-refused : _≡_ {A = ℕ} 4 (getD (take 9 (drop 23 (left sample blank))) 0 0) → ⊥
+  not-all-refused = kind-there 4 (λ e. absurd (omega (arith, e))) (λ e. absurd (omega (arith, e)))
+
+  -- "one leaving the buffer blank": 0 is the kind of no answer
+  pub not-blank : left sample blank ≡ blank → ⊥
+  not-blank same =
+      kind-there 0 (λ e. absurd (omega (arith, e))) (λ e. absurd (omega (arith, e))) (ap (λ (l : List ℕ). getD (take 9 (drop 23 l)) 0 0) (sym same))
 
   -- "one saying 12 untried"
   pub not-twelve : (k at : ℕ) → returned sample blank ≡ Refused k at → ⊥
@@ -80,6 +90,16 @@ module _ (returned : List ℕ → List ℕ → Outcome) (left : List ℕ → Lis
   not-twelve k at says =
       let owed = met .0 sample blank .0 accepted-there in
       let one : _≡_ {A = ℕ} 0 1 = ap written (sym says) ∙ ap written (owed .1) in absurd (omega (arith, one))
+
+  -- "one printing 0 for all": the first day 180 of the log with a crop has 0.3518 inch
+  pub not-all-zero : (k : ℕ) → take 9 (drop 23 (left cropLog (replicate 84 0))) ≡ dated k 2008 180 0 → ⊥
+  unfolding EveryFigureWithinBound FiguresOwed FigureAt AnsweredLog stationAt dayAt wordAt signedOf signedAt
+  not-all-zero k is =
+      let owed = met .0 cropLog (replicate 84 0) .1 (82, outcome-is) 4 23 (stationAt cropLog 1) (dayAt cropLog 76) twoMeans (crop-day .answered) in
+      let zero-is : owed .0 ≡ 0 = one-figure _ k 2008 180 (owed .0) 0 (sym (owed .1) ∙ is) in
+      apart
+      (two-figures (stationAt cropLog 1) (asJudged (dayAt cropLog 76)) twoMeans constants (days .1 .answered) 0 3_518
+      (subst (WithinBound (stationAt cropLog 1) (asJudged (dayAt cropLog 76)) twoMeans) zero-is (owed .2)) (days .1 .bound))
 
   -- "one copying its first day's figure to later days": in the log with a crop day 180 of 2008 stands in both blocks, after other means
   pub not-copied : take 9 (drop 23 (left cropLog (replicate 84 0))) ≡ take 9 (drop 73 (left cropLog (replicate 84 0))) → ⊥

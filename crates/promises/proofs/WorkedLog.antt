@@ -101,7 +101,7 @@ lacking-too = (refl, refl)
 abbrev room : List ℕ
 room = lent ++ lent
 
--- the day 11 that comes again is refused with 6 and counts for nothing: day 12 has the figure that it has without it
+-- the day 11 that comes again is refused with 6; that its mean counts for nothing is in log/proofs/WorkedRules.antt, since day 12 has 0 either way
 pub two-blocks : bufferAfter twoBlocks room ≡
     5 ∷ 76 ∷ 73 ∷ 68 ∷ 88
     ∷ 4 ∷ 7 ∷ 215 ∷ 1 ∷ 109 ∷ 0 ∷ 0 ∷ 0 ∷ 7

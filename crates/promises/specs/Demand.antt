@@ -1,5 +1,5 @@
--- Demand 3, entire: every answered day, of a log or handed in alone, gets a figure within 6/100,000 of an inch of the unrounded equation. One
--- definition over any reader of logs and any judge of days. Assumes nothing.
+-- Demand 3, entire: every answered day, of a log or handed in alone, gets a figure within 6/100,000 of an inch of the unrounded equation, and no log that
+-- the rules answer is refused. One definition over any reader of logs and any judge of days. Assumes nothing.
 use mathlib.Core.Bool.{true, false}
 use mathlib.Core.List.{List}
 use mathlib.Core.Path.{_≡_}
@@ -36,7 +36,8 @@ unfoldable pub FigureAt : Station → Day → Earlier → ℕ → List ℕ → T
 FigureAt st x earlier place after =
     (n : ℕ) × (take 9 (drop place after) ≡ dated (kindOf (withMark x n)) (x .year) (x .d) n) × WithinBound st (asJudged x) earlier n
 
--- "An answered day gets a figure and no refusal": nor is its log refused. Which length is returned `Read` says, and not the demand.
+-- "An answered day gets a figure and no refusal": no log that the rules answer is refused, with an answered day or without. Which length is returned `Read`
+-- says, and not the demand.
 unfoldable pub NotRefused : List ℕ → List ℕ → Outcome → Type 0
 NotRefused s buffer returned = AnsweredLog s buffer → (n : ℕ) × (returned ≡ Written n)
 

@@ -1,6 +1,7 @@
--- Each line of the step sheet worked out by itself, in one table with one statement over it, `lines`, where its way of rounding shows: of a line that is
--- "down" the fraction dropped is a half or more, and of one that drops it toward zero there is a number above 0 and one below. A constant, a sign or a way
--- of rounding that is changed breaks it, even where it moves no figure. Assumes nothing.
+-- Lines of the step sheet worked out by themselves, in one table with one statement over it, `lines`, where their way of rounding shows: of a line that is
+-- "down" the fraction dropped is a half or more (but for N²/100, whose fraction is always 0.36), and of one that drops it toward zero there is a number
+-- above 0 and one below. A constant, a sign or a way of rounding that is changed breaks it, even where it moves no figure. r, a search, is in the worked
+-- days of `day`, and refusal 10 in its edges. Assumes nothing.
 use mathlib.Core.Path.{_≡_, refl}
 use mathlib.Core.List.{List, [], _∷_, map}
 use lib.IntN.{ℤ, pos, negsuc}

@@ -8,7 +8,7 @@ use Rattle.answers.specs.Answers.{Role, opens, ofDay, beside, roleOf}
 use Rattle.answers.specs.declared.Answer.{Answer}
 use Rattle.answers.specs.declared.Answer.the-variants as answer
 use Rattle.answers.proofs.Roles.{Count, countOf, Moderate}
-use Rattle.day.specs.Parts.{FigureAtMost}
+use Rattle.day.specs.Bound.{FigureAtMost}
 use Rattle.day.specs.declared.Code.{Code}
 use Rattle.day.proofs.FigureLimit.{mostFigure}
 use Rattle.lines.specs.Text.{cropLine}

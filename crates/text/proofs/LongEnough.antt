@@ -22,8 +22,8 @@ use Rattle.log.proofs.Longest.{answers-most, lines-room}
 use Rattle.log.proofs.OutcomeSize.{Small, outcome-small, outcome-alike}
 use Rattle.totals.specs.Totals.{totalOf}
 use Rattle.text.proofs.TotalsOwed.{BlockOf}
-use Rattle.text.specs.Report.{own, linesOf, textOf, reportOf}
-use Rattle.text.specs.Walk.{wholeReport, longestReport}
+use Rattle.text.specs.Report.{own, linesOf, textOf, reportOf, wholeReport}
+use Rattle.text.specs.Walk.{longestReport}
 use Rattle.text.proofs.SmallAnswers.{AreBytes, all-small}
 use Rattle.text.proofs.DateOrder.{answers-ordered}
 use Rattle.text.proofs.Sizes.{AllSmall, rest-small, rest-fewer, own-small, own-fewer, total-most, lines-most}

@@ -19,7 +19,7 @@ use Rattle.day.specs.declared.Refusal.the-variants.{BadDate}
 use Rattle.day.specs.declared.Station.{Station}
 use Rattle.day.specs.declared.Verdict.{Verdict}
 use Rattle.day.specs.declared.Verdict.the-variants.{Figure, Refused, Estimated}
-use Rattle.day.specs.Parts.{FigureAtMost}
+use Rattle.day.specs.Bound.{FigureAtMost}
 use Rattle.day.proofs.Dates.{date-tells}
 use Rattle.day.proofs.FigureLimit.{mostFigure, figure-most}
 use Rattle.day.proofs.Passed.{day-high}

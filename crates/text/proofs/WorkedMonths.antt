@@ -28,8 +28,7 @@ use Rattle.log.proofs.Sample as sample
 use Rattle.log.proofs.Sample.{windless, noMean, oneMean}
 use Rattle.lines.specs.Text.{totals, monthLine, seasonLine, leading, digits, padded, inches, verdictText, header, dayLine}
 use Rattle.totals.specs.Months.{daysBy, monthOf}
-use Rattle.text.specs.Report.{reportOf}
-use Rattle.text.specs.Walk.{wholeReport}
+use Rattle.text.specs.Report.{reportOf, wholeReport}
 use Rattle.text.proofs.TotalsOwed.{BlockOf, CountsOnce, TotalsOwed}
 use Rattle.text.proofs.Totals.{totals-owed}
 use Rattle.text.proofs.WorkedReport.{in-turn, lidwIn, lidw, missing, lidwMonth, lidwSeason, told}

@@ -26,8 +26,8 @@ use Rattle.log.specs.declared.Outcome.the-variants as outcome
 use Rattle.promises.proofs.WorkedLog.{worked}
 use Rattle.promises.proofs.WorkedCrop.{cropLog, worked as crop-worked}
 use Rattle.promises.proofs.WorkedEstimate.{estimateLog, worked as estimate-worked}
-use Rattle.text.specs.Report.{linesOf, textOf, reportOf}
-use Rattle.text.specs.Walk.{wholeReport, Ordered}
+use Rattle.text.specs.Report.{linesOf, textOf, reportOf, wholeReport}
+use Rattle.text.specs.Walk.{Ordered}
 use Rattle.text.proofs.DateOrder.{answers-ordered}
 use Rattle.text.proofs.InTurn.{linesInTurn, lines-in-turn}
 use Rattle.lines.specs.Text.{totals, monthLine, seasonLine, newline, leading, digits, padded, inches, verdictText, header, dayLine, cropLine, refusedLine}

@@ -6,7 +6,7 @@ use mathlib.Core.Path.{_≡_}
 use Prim.Native.Nat.{ℕ}
 use lib.Dec.{ltb, eqb}
 use lib.ListN.{length, drop}
-use Rattle.answers.specs.Answers.{Role, opens, ofDay, beside, roleOf}
+use Rattle.answers.specs.Answers.{Role, opens, ofDay, beside, roleOf, bytesOf}
 use Rattle.day.specs.declared.Code.{Code}
 use Rattle.log.specs.Log.{outcomeOf, answersTo}
 use Rattle.answers.specs.declared.Answer.{Answer}
@@ -90,6 +90,11 @@ pub record Prints (text before : List ℕ) (returned : Printed) (after : List �
   pub told : returned ≡ printedIn (length before) text
   pub bytes : after ≡ textOver before text
 
--- "An answered day gets a figure and no refusal": of a log that the rules answer the report is printed, and no line of a refusal
+-- "An answered day gets a figure and no refusal": of a log that the rules answer the text that is printed, or found too long, is the report, and no line of
+-- a refusal
 unfoldable pub ReportOwed : List ℕ → List ℕ → List ℕ → Printed → List ℕ → Type 0
 ReportOwed s buffer before returned after = AnsweredLog s buffer → Prints (header ++ linesOf (answersTo s)) before returned after
+
+-- the report of a log, with room for its answers: 12 does not hold
+unfoldable pub wholeReport : List ℕ → List ℕ
+wholeReport s = reportOf s (length (bytesOf (answersTo s)))

@@ -1,5 +1,4 @@
--- What the walk over the answers of a log is asked for and gives, and the report that the program prints. The contract of `write_report` does not cite it.
--- Assumes nothing.
+-- What the walk over the answers of a log is asked for and gives. The contract of `write_report` does not cite it. Assumes nothing.
 use mathlib.Core.Bool.{Bool, true}
 use mathlib.Core.List.{List, [], _∷_, _++_}
 use mathlib.Core.Path.{_≡_}
@@ -8,15 +7,10 @@ use lib.ListN.{length, drop}
 use Rattle.answers.specs.Answers.{Role, opens, ofDay, beside, roleOf, bytesOf}
 use Rattle.answers.specs.Overwriting.{laidIf}
 use Rattle.answers.specs.declared.Answer.{Answer}
-use Rattle.text.specs.Report.{lineOf, aboutBlock, own, reportOf}
+use Rattle.text.specs.Report.{lineOf, aboutBlock, own}
 use Rattle.totals.specs.Tally.{InMonthOrder}
 use Rattle.text.specs.declared.walk.Open.{Open}
 use Rattle.text.specs.declared.walk.Open.the-variants.{NoBlock, In}
-use Rattle.log.specs.Log.{answersTo}
-
--- the report of a log, with room for its answers: 12 does not hold
-unfoldable pub wholeReport : List ℕ → List ℕ
-wholeReport s = reportOf s (length (bytesOf (answersTo s)))
 
 -- the bytes from the index `from` up to n are those of the answers
 pub record Holds (s : List ℕ) (from n : ℕ) (answers : List Answer) : Type 0 where

@@ -9,7 +9,7 @@ ghost use Rattle.log.specs.Log.{bufferAfter};
 ghost use Rattle.log.specs.Parts.{longestAnswers};
 ghost use Rattle.answers.specs.declared.Answer.{Answer as Answered};
 ghost use Rattle.text.specs.Report.{linesOf, reportOf, Prints, ReportOwed};
-ghost use Rattle.text.specs.Walk.{wholeReport};
+ghost use Rattle.text.specs.Report.{wholeReport};
 ghost use Rattle.lines.specs.Text.{header as Text·header};
 ghost use Rattle.lines.specs.Text.{refusedLine};
 ghost use Rattle.text.specs.Walk.{longestReport, Holds, Ordered};

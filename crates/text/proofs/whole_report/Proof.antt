@@ -7,8 +7,7 @@ use lib.ListN.{length}
 use denote.Ref.{now}
 use borrow.Author.Needs.{needs}
 use Rattle.log.specs.Parts.{longestAnswers}
-use Rattle.text.specs.Report.{reportOf, Prints}
-use Rattle.text.specs.Walk.{wholeReport}
+use Rattle.text.specs.Report.{reportOf, Prints, wholeReport}
 use Rattle.text.proofs.LongEnough.{LongEnough, long-enough, whole}
 use Rattle.text.proofs.SmallAnswers.{AreBytes}
 use Rattle.text.specs.declared.Printed.{Printed}

@@ -3,8 +3,7 @@ use mathlib.Core.Path.{_≡_, sym, _∙_, ap, subst}
 use native.Mathlib.Omega.{arith}
 use borrow.Author.Needs.{needs}
 use Rattle.day.specs.Judgement.{figureOf, asJudged, withMark, verdictWith, judged}
-use Rattle.day.specs.Bound.{SignedConstants, FigureOwed, JudgesWithinBound}
-use Rattle.day.specs.Parts.{FigureInRange}
+use Rattle.day.specs.Bound.{SignedConstants, FigureOwed, JudgesWithinBound, FigureInRange}
 use Rattle.day.specs.declared.Day.{Day}
 use Rattle.day.specs.declared.Standing.{Standing}
 use Rattle.day.specs.declared.Verdict.{Verdict}
