@@ -8,17 +8,17 @@ use Rattle.day.specs.declared.Code.{Code}
 use Rattle.crops.specs.Crop.{badCrop, inSeason, i, r, above, cropFigure}
 use Rattle.crops.specs.declared.Crop.{Crop}
 
-abbrev of : Code → ℕ → ℕ → ℕ → List ℕ → Crop
+abbrev pub of : Code → ℕ → ℕ → ℕ → List ℕ → Crop
 of code year start full stages = record { code = code; year = year; start = start; full = full; stages = stages }
 
-abbrev BEAN : Code
+abbrev pub BEAN : Code
 BEAN = record { first = 66; second = 69; third = 65; fourth = 78 }
 
 -- the curve with a percentage of stage 10
-abbrev curve : ℕ → List ℕ
+abbrev pub curve : ℕ → List ℕ
 curve last = 20 ∷ 22 ∷ 30 ∷ 45 ∷ 65 ∷ 90 ∷ 105 ∷ 107 ∷ 95 ∷ 60 ∷ last ∷ []
 
-abbrev beans : Crop
+abbrev pub beans : Crop
 beans = of BEAN 2008 150 250 (curve 30)
 
 -- the first day and the last, those around them, and another year's

@@ -3,3 +3,4 @@ pub mod Faultless
 pub mod CropFigure
 pub mod CropBound
 pub mod Examples
+pub mod Apart

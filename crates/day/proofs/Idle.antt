@@ -10,7 +10,7 @@ use Rattle.numbers.proofs.Bounds.{bounded-abs, bounded-weaken}
 use Rattle.numbers.proofs.Near.{near, near-trans, near-sym}
 use Rattle.equation.proofs.Ends.{temperature-ends}
 use Rattle.equation.proofs.FigureLimit.{half-unit-self, vapour-root}
-use Rattle.day.specs.Bound.{Within, WithinBound, SignedConstants, FigureOwed, JudgesWithinBound}
+use Rattle.day.specs.Bound.{OfEveryValue, Within, WithinBound, SignedConstants, FigureOwed, JudgesWithinBound}
 use Rattle.day.specs.Judgement.{readingsOf, Answered, asJudged, withMark}
 use Rattle.day.specs.declared.Station.{Station}
 use Rattle.day.specs.declared.Day.{Day}
@@ -26,21 +26,27 @@ use Rattle.day.proofs.Marks.{either-way}
 abbrev pub inches : ℕ → ℚ
 inches n = fromℤ (pos n) *ℚ 1 /ℚ 10000
 
-near-of : (y v : ℚ) {ε : ℚ} → absℚ (y -ℚ v) ≤ℚ ε → Near y v ε
+pub near-of : (y v : ℚ) {ε : ℚ} → absℚ (y -ℚ v) ≤ℚ ε → Near y v ε
 near-of y v h = near refl (bounded-weaken (bounded-abs (y -ℚ v)) h)
 
--- each entry may stand for itself, and there is a root
+-- an answered day has a value: each entry may stand for itself, and there is a root
+pub one-value : (st : Station) (x : Day) (earlier : Earlier) → SignedConstants st → Answered st x earlier → (Holds : ℚ → Type 0)
+    → OfEveryValue st x earlier Holds → (v : ℚ) × Holds v
+unfolding readingsOf
+one-value st x earlier signed answered Holds every =
+    let root = vapour-root (x .dewpoint) (temperature-ends (accepted st x earlier signed answered .readings .dewpoint)) in (
+      _,
+      every _ _ _ _ _ (root .0) (half-unit-self (1 over 1000000000) tt _) (half-unit-self (1 over 1000000000) tt _)
+          (half-unit-self (1 over 1000000000) tt _) (half-unit-self (1 over 1000000000) tt _) (half-unit-self (1 over 10000) tt _) (root .1),
+    )
+
 pub two-figures : (st : Station) (x : Day) (earlier : Earlier) → SignedConstants st → Answered st x earlier → (n m : ℕ)
     → WithinBound st x earlier n → WithinBound st x earlier m → Near (inches n) (inches m) (6 /ℚ 100000 +ℚ 6 /ℚ 100000)
-unfolding WithinBound Within readingsOf
+unfolding WithinBound Within
 two-figures st x earlier signed answered n m a b =
-    let root = vapour-root (x .dewpoint) (temperature-ends (accepted st x earlier signed answered .readings .dewpoint)) in
-    near-trans
-    (near-of (inches n) _ (a _ _ _ _ _ (root .0) (half-unit-self (1 over 1000000000) tt _) (half-unit-self (1 over 1000000000) tt _)
-    (half-unit-self (1 over 1000000000) tt _) (half-unit-self (1 over 1000000000) tt _) (half-unit-self (1 over 10000) tt _) (root .1)))
-    (near-sym
-    (near-of (inches m) _ (b _ _ _ _ _ (root .0) (half-unit-self (1 over 1000000000) tt _) (half-unit-self (1 over 1000000000) tt _)
-    (half-unit-self (1 over 1000000000) tt _) (half-unit-self (1 over 1000000000) tt _) (half-unit-self (1 over 10000) tt _) (root .1))))
+    let both = one-value st x earlier signed answered (λ v. (absℚ (inches n -ℚ v) ≤ℚ 6 /ℚ 100000) × (absℚ (inches m -ℚ v) ≤ℚ 6 /ℚ 100000))
+    (λ α a1 aw bw P y hα ha1 haw hbw hP hy. (a α a1 aw bw P y hα ha1 haw hbw hP hy, b α a1 aw bw P y hα ha1 haw hbw hP hy)) in
+    near-trans (near-of (inches n) _ (both .1 .0)) (near-sym (near-of (inches m) _ (both .1 .1)))
 
 -- 1 for a figure, 0 for a refusal; and the figure
 abbrev figured : Verdict → ℕ
