@@ -2,7 +2,7 @@
 //! and no contract needs.
 use super::contracts::Contract;
 use super::definitions::Specs;
-use super::{text, Checked, Files};
+use super::{cited, text, Checked, Files};
 use std::collections::BTreeSet;
 
 /// The rows of the table, each with what is promised beside the rows above it: the function whose contract makes the
@@ -13,8 +13,11 @@ const ROWS: [(&str, &[&str]); 7] = [
         &["day::judge::judge judged"],
     ),
     (
-        "and how near it is: `FigureOwed`",
-        &["day::judge::judge FigureOwed"],
+        "and how near and how large it is: `FigureOwed`, `FigureInRange`",
+        &[
+            "day::judge::judge FigureOwed",
+            "day::judge::judge FigureInRange",
+        ],
     ),
     (
         "and the five tables' rules: `DayTables`, `PressureTable`",
@@ -40,11 +43,13 @@ const ROWS: [(&str, &[&str]); 7] = [
         &["promises::read_log CropFiguresOwed"],
     ),
     (
-        "and the report: `Prints`, `reportOf`, `ReportOwed`",
+        "and the report: `Prints`, `reportOf`, `ReportOwed`; the program's: `wholeReport`, `AtFront`",
         &[
             "text::write_report Prints",
             "text::write_report reportOf",
             "text::write_report ReportOwed",
+            "text::whole_report wholeReport",
+            "text::whole_report AtFront",
         ],
     ),
 ];
@@ -79,6 +84,8 @@ pub struct Believed<'a> {
     /// All that the promises rest on, and all that they and the contracts do.
     promised: BTreeSet<usize>,
     needed: BTreeSet<usize>,
+    /// What the table counts.
+    believed: BTreeSet<usize>,
 }
 
 impl<'a> Believed<'a> {
@@ -100,6 +107,13 @@ impl<'a> Believed<'a> {
             believed = specs.closure(&promises, &passed_over);
             table.push(row(specs, what, &believed));
         }
+        for contract in contracts.iter().filter(|it| is_public(&it.function)) {
+            let beside = &contract.ensured - &believed;
+            unmade.extend((&beside - &passed_over).iter().map(|it| {
+                let name = &specs.definitions[*it].name;
+                format!("{} promises {name}, and no row has it", contract.function)
+            }));
+        }
         let fractions = all().filter(|(_, it)| FRACTIONS.contains(&&*it.path));
         let fractions = &believed & &fractions.map(|(at, _)| at).collect();
         let what = "of it the fractions: `Ratios.antt` and `Fractions.antt` of `numbers`";
@@ -119,10 +133,12 @@ impl<'a> Believed<'a> {
             unmade,
             promised,
             needed: specs.closure(&promises, &BTreeSet::new()),
+            believed,
         }
     }
 
-    /// Every definition has to be needed, each promise to be made, and the document to have the table.
+    /// Every definition has to be needed, each promise to be made, and the document to have the table and to name the file of
+    /// each definition that is believed.
     pub fn check(&self, files: &Files) -> Checked {
         let all: BTreeSet<usize> = (0..self.specs.definitions.len()).collect();
         let mut faults = self.list(&all - &self.needed, "no promise and no contract needs");
@@ -131,6 +147,18 @@ impl<'a> Believed<'a> {
         let mut wrong = self.unmade.clone();
         if !lines.windows(self.table.len()).any(|it| it == self.table) {
             wrong.push("not the table that `documents print` prints".into());
+        }
+        let cited = cited::spans(text(files, DOCUMENT)).into_iter();
+        let cited: BTreeSet<String> = cited.flat_map(|(_, it)| cited::alternatives(it)).collect();
+        let believed = self
+            .believed
+            .iter()
+            .map(|it| &self.specs.definitions[*it].path);
+        let paths: BTreeSet<&str> = believed
+            .filter_map(|it| it.strip_prefix("crates/"))
+            .collect();
+        for path in paths.into_iter().filter(|it| !cited.contains(*it)) {
+            wrong.push(format!("does not name {path}, which has what is believed"));
         }
         let at = |what| format!("{DOCUMENT}:{}: {what}", head.unwrap_or(0) + 1);
         faults.extend(wrong.into_iter().map(at));
@@ -148,6 +176,12 @@ impl<'a> Believed<'a> {
             .map(|it| format!("{}:{}: {what} {}", it.path, it.line, it.name))
             .collect()
     }
+}
+
+/// Whether a function is one whose contract a row has.
+fn is_public(function: &str) -> bool {
+    let mut promises = ROWS.iter().flat_map(|(_, promises)| promises.iter());
+    promises.any(|it| it.split(' ').next() == Some(function))
 }
 
 /// The definitions of some promises, and what is to be said of those that are not made.
@@ -229,18 +263,26 @@ unused = judged
         assert_eq!(believed.inner(), [inner]);
 
         let table = believed.table.join("\n");
-        files.insert("docs/PROOF.md".into(), format!("# 2\n\n{table}\n\nMore.\n"));
+        let named = "`day/specs/Rules.antt`";
+        files.insert(
+            "docs/PROOF.md".into(),
+            format!("# 2\n\n{table}\n\n{named}\n"),
+        );
         let (faults, _) = believed.check(&files);
         let unused = "crates/day/specs/Rules.antt:11: no promise and no contract needs unused";
         assert_eq!(faults[0], unused);
         let missing = "docs/PROOF.md:3: day::judge::judge does not promise FigureOwed";
         assert!(faults.contains(&missing.into()));
+        assert!(!faults.iter().any(|it| it.contains("does not name")));
         let made = |it: &String| it.ends_with("does not promise judged");
         assert!(!faults.iter().any(made));
         let other = "docs/PROOF.md:1: not the table that `documents print` prints";
         assert!(!faults.iter().any(|it| it.ends_with("prints")));
         files.insert("docs/PROOF.md".into(), table.replace("| 4 |", "| 5 |"));
-        assert!(believed.check(&files).0.contains(&other.into()));
+        let unnamed =
+            "docs/PROOF.md:1: does not name day/specs/Rules.antt, which has what is believed";
+        let (faults, _) = believed.check(&files);
+        assert!(faults.contains(&other.into()) && faults.contains(&unnamed.into()));
     }
 
     #[test]

@@ -8,6 +8,9 @@ pub fn check(files: &Files) -> Checked {
     let known: Vec<BTreeSet<&str>> = files.iter().map(names_in).collect();
     let (mut faults, mut count) = (Vec::new(), 0);
     for path in DOCUMENTS {
+        if !files.contains_key(path) {
+            faults.push(format!("{path}:1: there is no such document"));
+        }
         for (line, name) in spans(text(files, path)) {
             let is_there = if let Some((file, name)) = in_a_file(name) {
                 stands_in(files, file, name)
@@ -28,41 +31,105 @@ pub fn check(files: &Files) -> Checked {
             let there = format!("/{file}");
             let is_there = |path: &str| format!("/{path}").ends_with(&there);
             let mut such = files.iter().filter(|(path, _)| is_there(path));
-            if !such.any(|it| names_in(it).contains(name)) {
+            if !such.any(|it| defines(it, &name)) {
                 faults.push(format!("{path}:{line}: {file} has no such name: {name}"));
+            }
+        }
+        for (line, target) in links(path, text(files, path)) {
+            count += 1;
+            if !files.contains_key(&target) {
+                faults.push(format!(
+                    "{path}:{line}: a link that leads nowhere: {target}"
+                ));
             }
         }
     }
     (faults, count)
 }
 
-/// The names that are said to stand in a file: `File.antt`: `name`, `name`; and `name` in `path/File.antt`.
-fn placed(document: &str) -> Vec<(usize, &str, &str)> {
+/// The files that a document links to, by their paths from the root.
+fn links(path: &str, document: &str) -> Vec<(usize, String)> {
+    let mut found = Vec::new();
+    for (number, _, line) in lines_of(document) {
+        for target in line
+            .split("](")
+            .skip(1)
+            .filter_map(|it| it.split(')').next())
+        {
+            let mut parts: Vec<&str> = path.split('/').collect();
+            parts.pop();
+            for part in target.split('/') {
+                match part {
+                    ".." => drop(parts.pop()),
+                    part => parts.push(part),
+                }
+            }
+            found.push((number, parts.join("/")));
+        }
+    }
+    found
+}
+
+/// The names that are said to stand in a file: `File.antt`: `name`, `name`; and `name` in `path/File.antt`, at a line's end too.
+fn placed(document: &str) -> Vec<(usize, String, String)> {
     let is_source = |span: &str| span.ends_with(".antt") || span.ends_with(".rt");
     let is_word = |span: &str| is_name(span) && !span.contains(['/', ':', '{', '.']);
     let mut found = Vec::new();
-    for (number, block, line) in lines_of(document) {
-        let parts: Vec<&str> = line.split('`').collect();
-        let spans = (1..parts.len()).step_by(2).filter(|_| block.is_none());
+    for (number, paragraph) in paragraphs(document) {
+        let parts: Vec<&str> = paragraph.split('`').collect();
         let mut file = "";
-        for at in spans {
+        for at in (1..parts.len()).step_by(2) {
             let (before, span) = (parts[at - 1], parts[at]);
+            let last = if at > 2 { parts[at - 2] } else { "" };
             file = match before {
-                ": " if at > 2 && is_source(parts[at - 2]) => parts[at - 2],
+                ": " if is_source(last) => last,
                 ", " => file,
                 _ => "",
             };
             if !file.is_empty() && is_word(span) {
-                found.push((number, file, span));
+                found.push((number, file.to_owned(), span.to_owned()));
             }
-            if before == " in " && is_source(span) && !span.contains('{') && is_word(parts[at - 2])
-            {
-                found.push((number, span, parts[at - 2]));
+            if before == " in " && is_source(span) && !span.contains('{') && is_word(last) {
+                found.push((number, span.to_owned(), last.to_owned()));
             }
         }
     }
     found
 }
+
+/// The lines of a document that are in no block, those of a paragraph joined, each with its first line's number.
+fn paragraphs(document: &str) -> Vec<(usize, String)> {
+    let mut paragraphs: Vec<(usize, String)> = Vec::new();
+    let mut last = 0;
+    for (number, block, line) in lines_of(document) {
+        let starts = line.starts_with(['|', '-', '#']) || number != last + 1;
+        if block.is_some() || line.is_empty() {
+            continue;
+        }
+        last = number;
+        match paragraphs.last_mut() {
+            Some((_, text)) if !starts => *text += &format!(" {line}"),
+            _ => paragraphs.push((number, line.into())),
+        }
+    }
+    paragraphs
+}
+
+/// Whether a source defines a name: in a file of definitions or proofs it stands in front of a colon, or behind `record` or `data`.
+fn defines(file: (&String, &String), name: &str) -> bool {
+    if !file.0.ends_with(".antt") {
+        return names_in(file).contains(name);
+    }
+    file.1.lines().map(words).any(|words| {
+        let at = words.iter().position(|word| *word == name);
+        at.is_some_and(|at| match words[..at] {
+            [.., "record" | "data"] => true,
+            _ => words.get(at + 1) == Some(&":") && words[..at].iter().all(|it| MARKS.contains(it)),
+        })
+    })
+}
+
+const MARKS: [&str; 3] = ["pub", "abbrev", "unfoldable"];
 
 /// What stands in backticks outside of blocks, with the number of its line.
 pub fn spans(document: &str) -> Vec<(usize, &str)> {
@@ -103,19 +170,22 @@ fn stands_in(files: &Files, file: &str, name: &str) -> bool {
     let (in_crate, file) = file.rsplit_once('/').unwrap_or(("", file));
     let ending = format!("/{file}.antt");
     let such = files.iter().filter(|(path, _)| {
-        path.ends_with(&ending) && path.starts_with(&format!("crates/{in_crate}"))
+        path.ends_with(&ending)
+            && (in_crate.is_empty() || path.starts_with(&format!("crates/{in_crate}/")))
     });
     let such: Vec<_> = such.collect();
     let crates: BTreeSet<_> = such
         .iter()
         .map(|(path, _)| path.split('/').nth(1))
         .collect();
-    let has = |text: &str| text.lines().flat_map(words).any(|word| word == name);
-    crates.len() == 1 && such.iter().any(|(_, text)| has(text))
+    crates.len() == 1
+        && such
+            .iter()
+            .any(|(path, text)| defines((*path, *text), name))
 }
 
 /// `a/{b,c}.antt` cites two.
-fn alternatives(name: &str) -> Vec<String> {
+pub fn alternatives(name: &str) -> Vec<String> {
     let (before, rest) = name.split_once('{').unwrap_or((name, ""));
     match rest.split_once('}') {
         Some((names, after)) => names
@@ -153,8 +223,8 @@ fn names_in<'a>((path, text): (&'a String, &'a String)) -> BTreeSet<&'a str> {
 
 #[cfg(test)]
 mod tests {
-    use super::{check, is_name, placed, spans};
-    use crate::documents::files;
+    use super::{check, defines, is_name, links, placed, spans};
+    use crate::documents::{files, DOCUMENTS};
 
     #[test]
     fn what_is_a_name() {
@@ -170,15 +240,27 @@ mod tests {
     #[test]
     fn names_that_are_said_to_stand_in_a_file() {
         let text =
-            "`A.antt`: `ab`, `cd`; `ef`, `B.antt`\n\n`gh` in `a/src/b.rt`, `ij` in `A.antt`: `kl`";
+            "`A.antt`: `ab`, `cd`; `ef`, `B.antt`\n\n`gh` in\n`b.rt`, `ij` in `A.antt`: `kl`";
         let expected = [
             (1, "A.antt", "ab"),
             (1, "A.antt", "cd"),
-            (3, "a/src/b.rt", "gh"),
+            (3, "b.rt", "gh"),
             (3, "A.antt", "ij"),
             (3, "A.antt", "kl"),
         ];
-        assert_eq!(placed(text), expected);
+        let owned = expected.map(|(line, file, name)| (line, file.to_string(), name.to_string()));
+        assert_eq!(placed(text), owned);
+        let path = String::from("a.antt");
+        let text = "pub ab : ℕ\nab = cd\n  ef : ℕ\ndata Gh : Type 0".into();
+        let is_there = ["ab", "ef", "Gh", "cd", "ℕ"].map(|it| defines((&path, &text), it));
+        assert_eq!(is_there, [true, true, true, false, false]);
+    }
+
+    #[test]
+    fn links_lead_from_the_documents_folder() {
+        let found = links("docs/A.md", "[a](b.md), [c](../d.md)\n[e](../x/f.md)");
+        let owned = [(1, "docs/b.md"), (1, "d.md"), (2, "x/f.md")];
+        assert_eq!(found, owned.map(|(line, path)| (line, path.to_string())));
     }
 
     #[test]
@@ -198,10 +280,13 @@ mod tests {
             ("crates/log/src/lib.rt", "// said"),
             ("crates/log/src/step.rt", "pub fn start() {}"),
         ]);
-        let (faults, count) = check(&files);
+        let (mut faults, count) = check(&files);
+        let missing_documents = DOCUMENTS.len() - 1;
+        let others = faults.split_off(missing_documents);
+        assert!(faults.iter().all(|it| it.ends_with("no such document")));
         let named = missing.split(", ").map(|it| it.trim_matches('`'));
         let expected = named.map(|it| format!("README.md:4: no such name or path: {it}"));
-        assert_eq!(faults, expected.collect::<Vec<_>>());
+        assert_eq!(others, expected.collect::<Vec<_>>());
         assert_eq!(count, 16);
     }
 }

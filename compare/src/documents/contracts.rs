@@ -40,7 +40,7 @@ pub fn read(files: &Files, specs: &Specs) -> Vec<Contract> {
             }
             if let (false, Some(contract)) = (clause.is_empty(), contracts.last_mut()) {
                 let count = |bracket| words.iter().filter(|it| **it == bracket).count();
-                depth = depth + count("{") - count("}");
+                depth = (depth + count("{")).saturating_sub(count("}"));
                 let named = words.iter().filter_map(|it| specs.brought_in(&scope, it));
                 let named: BTreeSet<usize> = named.collect();
                 contract.named.extend(&named);

@@ -36,16 +36,21 @@ pub fn read(root: &Path) -> io::Result<Files> {
     Ok(files)
 }
 
+/// The files and folders below a folder, but for what a build leaves, what is hidden from a listing and links: no source is
+/// one of these.
 fn read_below(folder: &Path, path: &str, files: &mut Files) -> io::Result<()> {
     for entry in fs::read_dir(folder)? {
-        let (name, entry) = entry.map(|it| (it.file_name(), it.path()))?;
-        let inner = format!("{path}{}", name.to_string_lossy());
-        if entry.is_file() {
+        let entry = entry?;
+        let (name, kind) = (entry.file_name(), entry.file_type()?);
+        let name = name.to_string_lossy();
+        let inner = format!("{path}{name}");
+        let is_hidden = name.starts_with('.') && name != ".ci";
+        if kind.is_file() && !is_hidden {
             // The sample logs are bytes, in which nothing is looked up.
-            let text = String::from_utf8_lossy(&fs::read(entry)?).into();
+            let text = String::from_utf8_lossy(&fs::read(entry.path())?).into();
             files.insert(inner, text);
-        } else if name != "target" && name != ".git" {
-            read_below(&entry, &format!("{inner}/"), files)?;
+        } else if kind.is_dir() && !is_hidden && name != "target" {
+            read_below(&entry.path(), &format!("{inner}/"), files)?;
         }
     }
     Ok(())

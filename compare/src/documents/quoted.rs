@@ -10,7 +10,15 @@ pub fn check(files: &Files) -> Checked {
         let every_block = OF_THE_PROOF.contains(&path);
         for (line, paragraph) in paragraphs(text(files, path), every_block) {
             count += paragraph.lines().count();
-            let quoted = format!("\n{paragraph}");
+            // Behind the last clause of a contract that is quoted whole the body begins.
+            let is_clause =
+                |line: &str| line.starts_with("    ensures") || line.starts_with("    requires");
+            let body = if paragraph.lines().last().is_some_and(is_clause) {
+                "{"
+            } else {
+                ""
+            };
+            let quoted = format!("\n{paragraph}{body}");
             if !sources.iter().any(|source| source.contains(&quoted)) {
                 let first = paragraph.lines().next().unwrap_or_default();
                 faults.push(format!(
