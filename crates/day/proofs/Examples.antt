@@ -16,6 +16,7 @@ use Rattle.tables.proofs.PressureEntries.{pressure-is}
 use Rattle.sheet.specs.declared.Entries.{Entries}
 use Rattle.sheet.specs.Limits.{routineLimit}
 use Rattle.sheet.specs.StepSheet as sheet
+use Rattle.sheet.proofs.Examples.{Row, _gives_, given, written}
 use Rattle.day.specs.Calendar.{yearLength, isDate}
 use Rattle.day.specs.Rules.{numberOf}
 use Rattle.day.specs.Judgement.{readingsOf, entriesOf, clearOf, meansOf, earlierOf, figureOf, holds, Answered, standingOf, lacksDewPoint, asJudged, withMark, judged}
@@ -34,17 +35,6 @@ use Rattle.day.proofs.FigureWith.{figureWith}
 use Rattle.day.proofs.Standings.{stands-answered, answered-figure}
 
 -- ---- the marked values
-
--- what a line or a table gives, and what is written
-infix 2 _gives_
-data Row : Type 0 where
-  _gives_ : ℤ → ℤ → Row
-
-abbrev given : Row → ℤ
-given (x gives y) = x
-
-abbrev written : Row → ℤ
-written (x gives y) = y
 
 -- the station's clear day at d = 180, and one of 500 cal/cm²/d
 abbrev clearDay : ℤ

@@ -7,15 +7,15 @@ use mathlib.Core.List.{List, [], _∷_, map}
 use lib.IntN.{ℤ, pos, negsuc}
 use Rattle.sheet.specs.StepSheet as sheet
 
--- what a line gives, and what is written
+-- a row of worked values: what a line or a table gives, and what is written
 infix 2 _gives_
-data Row : Type 0 where
+pub data Row : Type 0 where
   _gives_ : ℤ → ℤ → Row
 
-abbrev given : Row → ℤ
+abbrev pub given : Row → ℤ
 given (x gives y) = x
 
-abbrev written : Row → ℤ
+abbrev pub written : Row → ℤ
 written (x gives y) = y
 
 -- -2.7 °F, and a clear day that no thousand divides: 155.82100459 cal/cm²/d
