@@ -1,5 +1,6 @@
 -- Idle judges of days that demand 3 stops by itself ("Which idle programs must be caught?" in document 01): one that refuses every day, and one that
--- gives 0 for every day. Two figures within the bound of one day are near each other (`two-figures`). Assumes nothing.
+-- gives 0 for every day. The equation has a value of every answered day (`one-value`), so that two figures within the bound of one day are near each other
+-- (`two-figures`), and one that is two units off is beyond it (`not-two-off`). Assumes nothing.
 use mathlib.Core.Path.{_≡_, refl, sym, _∙_, ap, subst}
 use Prim.Native.Nat.{ℕ}
 use native.Mathlib.Omega.{arith}

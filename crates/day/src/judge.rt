@@ -2,8 +2,7 @@
 // asks nothing of its caller.
 ghost use mathlib.Core.Path.{_≡_};
 ghost use Rattle.tables.specs.Tables.{DayTables, PressureTable};
-ghost use Rattle.day.specs.Bound.{FigureOwed};
-ghost use Rattle.day.specs.Bound.{FigureInRange};
+ghost use Rattle.day.specs.Bound.{FigureOwed, FigureInRange};
 ghost use Rattle.day.specs.Judgement.{Answered, figureOf, judged};
 use crate::Day;
 use crate::Earlier;

@@ -1,4 +1,5 @@
--- The definitions that contracts cite. A reader of statements needs Whole, Ranges, Ratios and Fractions; the rest serves them.
+-- The definitions that contracts cite. A reader of statements needs Whole, Ranges, Ratios, Fractions and Rounding, and of Solver
+-- `power`; the rest serves them.
 pub mod Whole
 pub mod Ranges
 pub mod Integers

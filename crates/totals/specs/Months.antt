@@ -24,8 +24,6 @@ daysBy year i = getD offsets i 0 + cond (ltb i 2) 0 (leapDays year)
 unfoldable pub monthOf : ℕ → ℕ → ℕ
 monthOf year d = first (λ (i : ℕ). leb d (daysBy year i)) 13 0
 
--- ---- the calendar's own months, by their lengths
-
 -- ---- the months of the calendar in date order, 0 for January 1950
 
 abbrev pub yearAt : ℕ → ℕ
