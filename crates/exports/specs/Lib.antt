@@ -1,3 +1,4 @@
 -- What the contracts cite.
 pub mod HandedIn
 pub mod Told
+pub mod Version

@@ -9,6 +9,7 @@ ghost use Rattle.log.specs.Log.{outcomeOf, bufferAfter};
 ghost use Rattle.text.specs.Report.{reportOf, printedIn, textOver};
 ghost use Rattle.exports.specs.HandedIn.{stationOf, dayOf, meanOf, threeBefore};
 ghost use Rattle.exports.specs.Told.{said, saidBy, verdictSaid, outcomeSaid, printedSaid, FigureSaid, LengthSaid, ReportSaid};
+ghost use Rattle.exports.specs.Version.{version};
 use day::Code;
 use day::Day;
 use day::Earlier;
@@ -21,6 +22,14 @@ use text::Printed;
 
 // The number of the mark in the high half: a refusal's has one byte.
 const MARK: u32 = 256;
+
+// The library's version: a program that was compiled with another fuortwem.h sees it here.
+#[no_mangle]
+pub extern "C" fn fuortwem_version() -> u32
+    ensures { λ r. ⌜ r ≡ version ⌝ }
+{
+    1_006_000
+}
 
 // A refusal's number, 0 for none, or the mark's in the high half, and a value in the low half.
 fn packed(number: u32, value: u32) -> u64
