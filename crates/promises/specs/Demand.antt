@@ -20,7 +20,8 @@ use Rattle.log.specs.Log.{outcomeOf}
 use Rattle.log.specs.declared.Outcome.{Outcome}
 use Rattle.log.specs.declared.Outcome.the-variants.{Written}
 
--- "none of 1 to 5 and 12 and no log refusal that a request adds holds of the log and its answer buffer", by the rules and not by what a reader returns
+-- "none of 1 to 5 and 12 and no log refusal that a request adds holds of the log and its answer buffer", by the rules and not by what a reader
+-- returns
 unfoldable pub AnsweredLog : List ℕ → List ℕ → Type 0
 AnsweredLog s buffer = (n : ℕ) × (outcomeOf s (length buffer) ≡ Written n)
 
@@ -30,21 +31,22 @@ pub record AnsweredDay (s : List ℕ) (i : ℕ) (st : Station) (x : Day) (earlie
   pub at : DayAt s i st x earlier true place
   pub others : (r : Refusal) → T (leb 7 (numberOf r)) → holds r st (asJudged x) earlier ≡ false
 
--- In the buffer at exit the nine bytes at the day's own place are an answer of kind 3, or of kind 9 where the minimum stands for its dew point, with its
--- year and `d`, and a figure within the bound. The equation is fed the day as it is judged.
+-- In the buffer at exit the nine bytes at the day's own place are an answer of kind 3, or of kind 9 where the minimum stands for its dew point, with
+-- its year and `d`, and a figure within the bound. The equation is fed the day as it is judged.
 unfoldable pub FigureAt : Station → Day → Earlier → ℕ → List ℕ → Type 0
 FigureAt st x earlier place after =
     (n : ℕ) × (take 9 (drop place after) ≡ dated (kindOf (withMark x n)) (x .year) (x .d) n) × WithinBound st (asJudged x) earlier n
 
--- "An answered day gets a figure and no refusal": no log that the rules answer is refused, with an answered day or without. Which length is returned `Read`
--- says, and not the demand.
+-- "An answered day gets a figure and no refusal": no log that the rules answer is refused, with an answered day or without. Which length is returned
+-- `Read` says, and not the demand.
 unfoldable pub NotRefused : List ℕ → List ℕ → Outcome → Type 0
 NotRefused s buffer returned = AnsweredLog s buffer → (n : ℕ) × (returned ≡ Written n)
 
 -- what is owed for a log: `buffer` is the answer buffer as it was lent, `after` as it is left
 unfoldable pub FiguresOwed : List ℕ → List ℕ → List ℕ → Type 0
 FiguresOwed s buffer after =
-    AnsweredLog s buffer → (i place : ℕ) (st : Station) (x : Day) (earlier : Earlier) → AnsweredDay s i st x earlier place → FigureAt st x earlier place after
+    AnsweredLog s buffer →
+    (i place : ℕ) (st : Station) (x : Day) (earlier : Earlier) → AnsweredDay s i st x earlier place → FigureAt st x earlier place after
 
 -- the demand: of a log and the buffer lent, `returned` gives what a reader hands back and `left` the buffer that it leaves
 unfoldable pub EveryFigureWithinBound : (List ℕ → List ℕ → Outcome) → (List ℕ → List ℕ → List ℕ) → (Station → Day → Earlier → Verdict) → Type 0
