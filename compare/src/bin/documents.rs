@@ -1,7 +1,7 @@
 //! Checks the documents against the sources: `documents` prints each fault and fails where there is one, `documents print`
 //! prints the table of what a reader has to believe, and `documents inner` the definitions that only inner contracts need.
 use compare::documents::{believed::Believed, definitions::Specs, Files};
-use compare::documents::{cited, contracts, edits, quoted, read};
+use compare::documents::{cited, contracts, edits, lengths, quoted, read, trace};
 use std::path::Path;
 use std::process::ExitCode;
 
@@ -25,11 +25,13 @@ fn main() -> ExitCode {
 
 fn check(files: &Files, believed: &Believed) -> ExitCode {
     let mut faults = Vec::new();
-    let [definitions, lines, names, edits] = [
+    let [definitions, quoted, names, rows, edits, lines] = [
         believed.check(files),
         quoted::check(files),
         cited::check(files),
+        trace::check(files),
         edits::check(files),
+        lengths::check(files),
     ]
     .map(|(found, count)| {
         faults.extend(found);
@@ -37,7 +39,8 @@ fn check(files: &Files, believed: &Believed) -> ExitCode {
     });
     faults.iter().for_each(|fault| println!("{fault}"));
     println!(
-        "documents: {definitions} definitions, {lines} quoted lines, {names} names and {edits} edits; faults: {}",
+        "documents: {definitions} definitions, {quoted} quoted lines, {names} names, {rows} rows of the trace, {edits} edits, \
+         {lines} lines; faults: {}",
         faults.len()
     );
     match faults[..] {

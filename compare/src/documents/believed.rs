@@ -2,7 +2,7 @@
 //! and no contract needs.
 use super::contracts::Contract;
 use super::definitions::Specs;
-use super::{cited, text, Checked, Files};
+use super::{cited, text, Checked, Files, PROOF};
 use std::collections::BTreeSet;
 
 /// The rows of the table, each with what is promised beside the rows above it: the function whose contract makes the
@@ -70,7 +70,6 @@ const FRACTIONS: [&str; 2] = [
     "crates/numbers/specs/Fractions.antt",
 ];
 
-const DOCUMENT: &str = "docs/PROOF.md";
 const HEAD: [&str; 2] = [
     "| To believe | Definitions | Lines of definition | With the comments above them |",
     "|---|---|---|---|",
@@ -142,13 +141,13 @@ impl<'a> Believed<'a> {
     pub fn check(&self, files: &Files) -> Checked {
         let all: BTreeSet<usize> = (0..self.specs.definitions.len()).collect();
         let mut faults = self.list(&all - &self.needed, "no promise and no contract needs");
-        let lines: Vec<&str> = text(files, DOCUMENT).lines().collect();
+        let lines: Vec<&str> = text(files, PROOF).lines().collect();
         let head = lines.iter().position(|line| *line == HEAD[0]);
         let mut wrong = self.unmade.clone();
         if !lines.windows(self.table.len()).any(|it| it == self.table) {
             wrong.push("not the table that `documents print` prints".into());
         }
-        let cited = cited::spans(text(files, DOCUMENT)).into_iter();
+        let cited = cited::spans(text(files, PROOF)).into_iter();
         let cited: BTreeSet<String> = cited.flat_map(|(_, it)| cited::alternatives(it)).collect();
         let believed = self
             .believed
@@ -160,7 +159,7 @@ impl<'a> Believed<'a> {
         for path in paths.into_iter().filter(|it| !cited.contains(*it)) {
             wrong.push(format!("does not name {path}, which has what is believed"));
         }
-        let at = |what| format!("{DOCUMENT}:{}: {what}", head.unwrap_or(0) + 1);
+        let at = |what| format!("{PROOF}:{}: {what}", head.unwrap_or(0) + 1);
         faults.extend(wrong.into_iter().map(at));
         (faults, all.len())
     }

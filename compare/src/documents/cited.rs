@@ -1,7 +1,7 @@
 //! The names that documents cite in backticks: a path is one of the repository's, a name that is said to stand in a file stands
 //! there, and any other name is one that a source has.
 use super::definitions::words;
-use super::{lines_of, text, Checked, Files, DOCUMENTS};
+use super::{lines_of, said, Checked, Files, DOCUMENTS};
 use std::collections::BTreeSet;
 
 pub fn check(files: &Files) -> Checked {
@@ -11,9 +11,11 @@ pub fn check(files: &Files) -> Checked {
         if !files.contains_key(path) {
             faults.push(format!("{path}:1: there is no such document"));
         }
-        for (line, name) in spans(text(files, path)) {
-            let is_there = if let Some((file, name)) = in_a_file(name) {
-                stands_in(files, file, name)
+    }
+    for (path, document) in said(files) {
+        for (line, name) in spans(&document) {
+            let is_there = if let Some((file, names)) = in_a_file(name) {
+                names.iter().all(|it| stands_in(files, file, it))
             } else if is_name(name) {
                 alternatives(name)
                     .iter()
@@ -26,7 +28,7 @@ pub fn check(files: &Files) -> Checked {
                 faults.push(format!("{path}:{line}: no such name or path: {name}"));
             }
         }
-        for (line, file, name) in placed(text(files, path)) {
+        for (line, file, name) in placed(&document) {
             count += 1;
             let there = format!("/{file}");
             let is_there = |path: &str| format!("/{path}").ends_with(&there);
@@ -35,7 +37,7 @@ pub fn check(files: &Files) -> Checked {
                 faults.push(format!("{path}:{line}: {file} has no such name: {name}"));
             }
         }
-        for (line, target) in links(path, text(files, path)) {
+        for (line, target) in links(path, &document) {
             count += 1;
             if !files.contains_key(&target) {
                 faults.push(format!(
@@ -129,7 +131,7 @@ fn defines(file: (&String, &String), name: &str) -> bool {
     })
 }
 
-const MARKS: [&str; 3] = ["pub", "abbrev", "unfoldable"];
+pub(super) const MARKS: [&str; 3] = ["pub", "abbrev", "unfoldable"];
 
 /// What stands in backticks outside of blocks, with the number of its line.
 pub fn spans(document: &str) -> Vec<(usize, &str)> {
@@ -145,8 +147,9 @@ pub fn spans(document: &str) -> Vec<(usize, &str)> {
         .collect()
 }
 
-/// What is no name: `axiom`, the word that no source may have; and what is in no repository, since a build leaves it.
-const NO_NAMES: [&str; 2] = ["axiom", "target/"];
+/// What is no name: `axiom`, the word that no source may have; and what is in no repository, since a build or an installation
+/// leaves it.
+const NO_NAMES: [&str; 5] = ["axiom", "target/", "lib/lib", "include/", "/usr/local"];
 
 /// A name has two letters or more, and no mark of a literal, of a command or of a pattern.
 fn is_name(span: &str) -> bool {
@@ -157,22 +160,22 @@ fn is_name(span: &str) -> bool {
     letters >= 2 && !is_pattern && !is_literal && !is_exempt
 }
 
-/// `day/Edges: edges` is a name with its file, and the crate where others have such a file too.
-fn in_a_file(span: &str) -> Option<(&str, &str)> {
-    let (file, name) = span.split_once(": ")?;
+/// `day/Edges: edges` is a name with its file, and the crate where others have such a file too; a file may have some names.
+fn in_a_file(span: &str) -> Option<(&str, Vec<&str>)> {
+    let (file, names) = span.split_once(": ")?;
     let is_file = |it: char| it.is_alphanumeric() || it == '/';
-    let named = file.chars().all(is_file) && !name.contains(char::is_whitespace);
-    named.then_some((file, name))
+    let names: Vec<&str> = names.split(", ").collect();
+    let are_words = !names.iter().any(|it| it.contains(char::is_whitespace));
+    (file.chars().all(is_file) && are_words).then_some((file, names))
 }
 
-/// One file of proofs/ or specs/ has the name; where no crate is given, only one crate has such a file.
+/// One file of proofs/ or specs/ has the name, of the crate and the folder that are given; where no crate is, only one has
+/// such a file.
 fn stands_in(files: &Files, file: &str, name: &str) -> bool {
-    let (in_crate, file) = file.rsplit_once('/').unwrap_or(("", file));
-    let ending = format!("/{file}.antt");
-    let such = files.iter().filter(|(path, _)| {
-        path.ends_with(&ending)
-            && (in_crate.is_empty() || path.starts_with(&format!("crates/{in_crate}/")))
-    });
+    let (folder, file) = file.rsplit_once('/').unwrap_or(("crates", file));
+    let (ending, folder) = (format!("/{file}.antt"), format!("/{folder}/"));
+    let is_meant = |path: &str| path.ends_with(&ending) && format!("/{path}").contains(&folder);
+    let such = files.iter().filter(|(path, _)| is_meant(path));
     let such: Vec<_> = such.collect();
     let crates: BTreeSet<_> = such
         .iter()
@@ -234,6 +237,8 @@ mod tests {
         assert!(!others.iter().any(|it| is_name(it)));
         let others = ["d", "a=b", "f(x)", "?", "target/bin/report", "axiom"];
         assert!(!others.iter().any(|it| is_name(it)));
+        let others = ["lib/libmade.a", "include/made.h", "/usr/local"];
+        assert!(!others.iter().any(|it| is_name(it)));
         assert_eq!(spans("a `b` c `d`\n\n`e`"), [(1, "b"), (1, "d"), (3, "e")]);
     }
 
@@ -267,15 +272,16 @@ mod tests {
     fn names_are_found_in_the_code_and_in_the_paths() {
         let found =
             "`worked-day`, `log::step::start`, `step/step`, `crates/log/specs/`, `Log.antt`,\n\
-            `log/specs/{Log,Walk}.antt`, `as_three`, `Log: worked-day`, `log/Walk: step`";
+            `log/specs/{Log,Walk}.antt`, `as_three`, `Log: worked-day`, `log/Walk: step`, \
+            `log/specs/Walk: step, on`, `specs/Log: worked-day`";
         let missing = "`said`, `log::lib::start`, `step/start`, `Day.antt`, \
-            `log/specs/{Log,Day}.antt`, `Log: step`, `Walk: step`";
+            `log/specs/{Log,Day}.antt`, `Log: step`, `Walk: step`, `log/Walk: on,off`, `proofs/Log: worked-day`";
         let files = files(&[
             ("README.md", &format!("{found}\n\n{missing}\n")),
             ("crates/log/must-fail/as_three.edit", "new: said"),
             ("crates/log/proofs/step/step/Proof.antt", ""),
             ("crates/log/specs/Log.antt", "pub worked-day : Day -- said"),
-            ("crates/log/specs/Walk.antt", "pub step : ℕ"),
+            ("crates/log/specs/Walk.antt", "pub step : ℕ\non : ℕ"),
             ("crates/text/specs/Walk.antt", "pub step : ℕ"),
             ("crates/log/src/lib.rt", "// said"),
             ("crates/log/src/step.rt", "pub fn start() {}"),
@@ -287,6 +293,6 @@ mod tests {
         let named = missing.split(", ").map(|it| it.trim_matches('`'));
         let expected = named.map(|it| format!("README.md:4: no such name or path: {it}"));
         assert_eq!(others, expected.collect::<Vec<_>>());
-        assert_eq!(count, 16);
+        assert_eq!(count, 20);
     }
 }

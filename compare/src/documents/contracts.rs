@@ -54,7 +54,7 @@ pub fn read(files: &Files, specs: &Specs) -> Vec<Contract> {
 }
 
 /// `day::judge` of crates/day/src/judge.rt, and `day` of its lib.rt.
-fn module_of(path: &str) -> Option<String> {
+pub(super) fn module_of(path: &str) -> Option<String> {
     let module = path.strip_prefix("crates/")?.strip_suffix(".rt")?;
     let module = module.strip_suffix("/lib").unwrap_or(module);
     module

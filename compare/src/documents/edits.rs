@@ -1,24 +1,13 @@
-//! The must-fail edits: a document of the proof names each, and what it replaces stands once in its file, so that it is not
-//! idle.
-use super::{cited, text, Checked, Files, OF_THE_PROOF};
+//! The must-fail edits: what each replaces stands once in its file, so that it is not idle.
+use super::{text, Checked, Files};
 
 pub fn check(files: &Files) -> Checked {
-    let named = OF_THE_PROOF
-        .map(|path| cited::spans(text(files, path)))
-        .concat();
     let (mut faults, mut count) = (Vec::new(), 0);
     for (path, edit) in files {
-        let Some((folder, name)) = path.split_once("/must-fail/") else {
+        let Some((folder, _)) = path.split_once("/must-fail/") else {
             continue;
         };
         count += 1;
-        let name = name.trim_end_matches(".edit");
-        if !named.iter().any(|(_, span)| *span == name) {
-            faults.push(format!(
-                "{path}:1: {} does not name it",
-                OF_THE_PROOF.join(" or ")
-            ));
-        }
         let mut edited = "";
         for (line, number) in edit.lines().zip(1..) {
             if let Some(file) = line.strip_prefix("file: ") {
@@ -42,21 +31,16 @@ mod tests {
     use crate::documents::files;
 
     #[test]
-    fn an_edit_is_named_and_finds_its_text_once() {
+    fn an_edit_finds_its_text_once() {
         let edit = "file: src/lib.rt\nold: a < b\nnew: b < a\nold: twice\nnew: once\n";
         let files = files(&[
-            ("crates/day/must-fail/known.edit", edit),
-            (
-                "crates/day/must-fail/unknown.edit",
-                "file: src/no.rt\nold: a",
-            ),
+            ("crates/day/must-fail/one.edit", edit),
+            ("crates/day/must-fail/other.edit", "file: src/no.rt\nold: a"),
             ("crates/day/src/lib.rt", "if a < b { twice(twice()) }\n"),
-            ("docs/PROOF.md", "`known` and\n```\n`unknown`\n```\n"),
         ]);
         let expected = [
-            "crates/day/must-fail/known.edit:4: stands 2 times in its file: twice",
-            "crates/day/must-fail/unknown.edit:1: docs/PROOF.md or docs/TRACE.md does not name it",
-            "crates/day/must-fail/unknown.edit:2: stands 0 times in its file: a",
+            "crates/day/must-fail/one.edit:4: stands 2 times in its file: twice",
+            "crates/day/must-fail/other.edit:2: stands 0 times in its file: a",
         ];
         assert_eq!(check(&files), (expected.map(String::from).into(), 2));
     }

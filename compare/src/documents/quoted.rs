@@ -1,14 +1,16 @@
-//! The code that documents quote: each paragraph of a block stands in one source file, line for line.
-use super::{lines_of, text, Checked, Files, DOCUMENTS, OF_THE_PROOF};
+//! The code that documents quote: each paragraph of a block stands in one source file, line for line. What is proved and the
+//! landing notes quote the sources in every block, the other documents in those that are marked as such code.
+use super::{landings, lines_of, text, Checked, Files, DOCUMENTS, PROOF};
 
 pub fn check(files: &Files) -> Checked {
     let is_code = |path: &str| path.ends_with(".antt") || path.ends_with(".rt");
     let sources = files.iter().filter(|(path, _)| is_code(path));
     let sources: Vec<String> = sources.map(|(_, text)| format!("\n{text}")).collect();
     let (mut faults, mut count) = (Vec::new(), 0);
-    for path in DOCUMENTS {
-        let every_block = OF_THE_PROOF.contains(&path);
-        for (line, paragraph) in paragraphs(text(files, path), every_block) {
+    let documents = DOCUMENTS.map(|path| (path, text(files, path), path == PROOF));
+    let notes = landings(files).map(|(path, note)| (path, note, true));
+    for (path, document, every_block) in documents.into_iter().chain(notes) {
+        for (line, paragraph) in paragraphs(document, every_block) {
             count += paragraph.lines().count();
             // Behind the last clause of a contract that is quoted whole the body begins.
             let is_clause =
@@ -78,11 +80,14 @@ three
             ("crates/day/specs/Rules.antt", "one\ntwo\n\nthree\n"),
             ("crates/day/src/lib.rt", "at\n  three\n"),
             ("docs/PROOF.md", PROOF),
+            ("docs/landings/W1.md", "# W1\n\n```\none\n```\n"),
+            ("docs/landings/W2.md", "# W2\n\n```\nsix\n```\n"),
         ]);
         let expected = [
             "docs/PROOF.md:11: the sources have no such lines: two ..",
             "README.md:2: the sources have no such lines: none ..",
+            "docs/landings/W2.md:4: the sources have no such lines: six ..",
         ];
-        assert_eq!(check(&files), (expected.map(String::from).into(), 6));
+        assert_eq!(check(&files), (expected.map(String::from).into(), 8));
     }
 }
