@@ -6,7 +6,8 @@ use Rattle.day.specs.declared.Mean.the-variants.{Present, Absent}
 use Rattle.day.specs.declared.Verdict.the-variants.{Figure}
 use Rattle.day.proofs.Examples.{days}
 use Rattle.exports.specs.HandedIn.{stationOf, dayOf, meanOf, threeBefore}
-use Rattle.exports.specs.Told.{accepted, refused, estimated, saidBy, printedSaid}
+use Rattle.exports.specs.Told.{accepted, refused, estimated, saidBy, outcomeSaid, printedSaid}
+use Rattle.log.specs.declared.Outcome.the-variants as outcome
 use Rattle.text.specs.declared.Printed.the-variants as printed
 
 -- the summer day at LIDW after means of 71 and 70 °F, by its 26 numbers
@@ -22,3 +23,7 @@ flags = (refl, refl, refl)
 pub told : (saidBy 3_518 ≡ accepted 3_518) × (saidBy 30_064_771_072 ≡ refused 7 0) × (saidBy 1_099_511_631_123 ≡ estimated 3_347) × (printedSaid (printed.Needs 132) ≡ refused 12 132)
 unfolding saidBy
 told = (refl, refl, refl, refl)
+
+-- of 01's worked log: the length of its answers; the offset where it is cut off; and for a buffer that is one byte too short the length needed
+pub outcomes : (outcomeSaid (outcome.Written 32) ≡ accepted 32) × (outcomeSaid (outcome.Refused 2 53) ≡ refused 2 53) × (outcomeSaid (outcome.Refused 12 32) ≡ refused 12 32)
+outcomes = (refl, refl, refl)
