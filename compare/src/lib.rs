@@ -1,5 +1,6 @@
 //! What is handed in and what comes back, as this project writes it, and the parts that are compared.
 
+pub mod comparison;
 pub mod days;
 pub mod documents;
 pub mod equation;
