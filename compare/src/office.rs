@@ -1,6 +1,7 @@
-//! The proved library's three functions. Its contracts ask nothing of the numbers; the slices make sure of the pointers.
+//! The proved library's three functions, safe to call: their contracts ask nothing of the numbers, and slices give the pointers.
 use crate::{Day, Earlier, Outcome, Station, Verdict};
 
+// The declarations of crates/exports/fuortwem.h, its parameter names too.
 extern "C" {
     fn fuortwem_judge(
         first: u8,
@@ -33,18 +34,18 @@ extern "C" {
 
     fn fuortwem_read_log(
         log: *const u8,
-        log_len: usize,
+        log_length: usize,
         answers: *mut u8,
-        answers_len: usize,
+        answers_length: usize,
     ) -> u64;
 
     fn fuortwem_report(
         log: *const u8,
-        log_len: usize,
+        log_length: usize,
         answers: *mut u8,
-        answers_len: usize,
+        answers_length: usize,
         text: *mut u8,
-        text_len: usize,
+        text_length: usize,
     ) -> u64;
 }
 
@@ -103,6 +104,7 @@ impl Handed {
         let [maximum, minimum, mean, dewpoint, radiation, wind] = self.readings;
         let [has_one, has_two, has_three] = self.has;
         let [one, two, three] = self.means;
+        // SAFETY: the function has no pointers, and its contract asks nothing of its numbers.
         unsafe {
             fuortwem_judge(
                 first,
@@ -156,15 +158,18 @@ fn outcome(returned: u64) -> Outcome {
 /// A log read to its end or refused.
 #[inline]
 pub fn read_log(log: &[u8], answers: &mut [u8]) -> Outcome {
-    outcome(unsafe {
-        fuortwem_read_log(log.as_ptr(), log.len(), answers.as_mut_ptr(), answers.len())
-    })
+    // SAFETY: a slice's pointer is not null, even where it is empty; the log may be read for its length and the answers read
+    // and written for theirs during the call, and what is borrowed for writing overlaps nothing. The contract asks no more.
+    let returned =
+        unsafe { fuortwem_read_log(log.as_ptr(), log.len(), answers.as_mut_ptr(), answers.len()) };
+    outcome(returned)
 }
 
 /// A log's report: the length of the text, or 12 with the length that the text buffer needs.
 #[inline]
 pub fn report(log: &[u8], answers: &mut [u8], text: &mut [u8]) -> Outcome {
-    outcome(unsafe {
+    // SAFETY: as for `read_log`; the text is borrowed for writing too, so that no two of the three overlap.
+    let returned = unsafe {
         fuortwem_report(
             log.as_ptr(),
             log.len(),
@@ -173,5 +178,6 @@ pub fn report(log: &[u8], answers: &mut [u8], text: &mut [u8]) -> Outcome {
             text.as_mut_ptr(),
             text.len(),
         )
-    })
+    };
+    outcome(returned)
 }

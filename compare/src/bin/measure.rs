@@ -186,6 +186,7 @@ impl Readings<f64> {
 impl Readings<f32> {
     /// The same statements in single precision, as Fortran compiles them.
     fn inches(&self) -> f32 {
+        // The declaration of fortran/etpcomp.f: BIND(C), the two arrays by reference and the other arguments by value.
         extern "C" {
             fn etpcomp(
                 mm_save: &[f32; 3],
@@ -201,6 +202,8 @@ impl Readings<f32> {
                 x: f32,
             ) -> f32;
         }
+        // SAFETY: the two references are to arrays of the lengths that the function reads, and it writes to neither; nothing is
+        // asked of the numbers, and it keeps nothing from one call to the next.
         unsafe {
             etpcomp(
                 &self.earlier,
