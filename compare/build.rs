@@ -17,13 +17,17 @@ fn main() {
     compile_routine(&here.join("fortran/etpcomp.f"), &out);
 }
 
-fn link_library(archive: &Path) {
-    println!("cargo:rustc-link-search=native={}", archive.display());
+/// Stops the build where the archive is not there, for a linker would only say that it cannot find `exports`.
+fn link_library(folder: &Path) {
+    let archive = folder.join("libexports.a");
+    println!("cargo:rerun-if-changed={}", archive.display());
+    if !archive.is_file() {
+        println!(
+            "cargo::error=there is no target/staticlib/libexports.a: run `rt staticlib exports` in the repository's folder first"
+        );
+    }
+    println!("cargo:rustc-link-search=native={}", folder.display());
     println!("cargo:rustc-link-lib=static=exports");
-    println!(
-        "cargo:rerun-if-changed={}",
-        archive.join("libexports.a").display()
-    );
 }
 
 /// One `static` for each table, an entry for each index, so that the plain version reads them from constant memory.

@@ -12,10 +12,17 @@ use std::process::{ChildStdin, Command, Stdio};
 use std::thread::sleep;
 use std::time::Duration;
 
-fn report_program() -> PathBuf {
-    std::env::var_os("REPORT_PROGRAM").map_or_else(
-        || Path::new(env!("CARGO_MANIFEST_DIR")).join("../target/bin/report"),
-        PathBuf::from,
+fn report_program() -> Result<PathBuf, String> {
+    if let Some(named) = std::env::var_os("REPORT_PROGRAM") {
+        return Ok(named.into());
+    }
+    let program = Path::new(env!("CARGO_MANIFEST_DIR")).join("../target/bin/report");
+    if program.is_file() {
+        return Ok(program);
+    }
+    Err(
+        "there is no target/bin/report: run `rt check report` in the repository's folder first"
+            .into(),
     )
 }
 
@@ -170,6 +177,7 @@ impl ProgramTally {
 }
 
 pub(super) fn compare_program() -> Result<ProgramTally, String> {
+    let program = report_program()?;
     let mut random = Random::new(3);
     let samples = sample_logs()?;
     let mut logs = samples.clone();
@@ -182,7 +190,6 @@ pub(super) fn compare_program() -> Result<ProgramTally, String> {
         logs.push(days::damaged(&mut random, log));
         logs.push(days::loose_bytes(&mut random, 60));
     }
-    let program = report_program();
     let mut tally = ProgramTally::default();
     for log in &logs {
         tally.check(&program, log, 1)?;
