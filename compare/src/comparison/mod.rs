@@ -20,6 +20,8 @@ use logs::{compare_logs, LogTally};
 use program::{compare_program, ProgramTally, LOG_KINDS};
 use reports::{REPORTS, TEXT_BUFFERS};
 use stations::STATION_KINDS;
+use std::process::ExitCode;
+use std::time::Instant;
 use tally::LIMITED;
 
 /// How much is compared.
@@ -59,8 +61,25 @@ const LONGEST_LOG: usize = 65_536;
 /// The header and two blocks: 3,477 days with a figure, a mark, a crop figure and a month line, and two season lines.
 const LONGEST_REPORT: usize = 198_253;
 
-/// Compares, and prints what was compared.
-pub fn run(size: &Size) -> Result<(), String> {
+/// Compares, and prints what was compared and how long it took; a failing status where there is a difference, or where something
+/// was never reached.
+pub fn compare(size: &Size) -> ExitCode {
+    let start = Instant::now();
+    let result = run(size);
+    let seconds = start.elapsed().as_secs_f64();
+    match result {
+        Ok(()) => {
+            println!("no difference; {seconds:.1} s");
+            ExitCode::SUCCESS
+        }
+        Err(difference) => {
+            eprintln!("the comparison FAILED after {seconds:.1} s\n{difference}");
+            ExitCode::FAILURE
+        }
+    }
+}
+
+fn run(size: &Size) -> Result<(), String> {
     println!("tables: {} entries are the same", table_text::compare()?);
     let program = compare_program()?;
     program.print();
