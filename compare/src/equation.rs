@@ -28,18 +28,57 @@ fn clear_day(station: &Station, d: u16) -> i64 {
     sum.max(i64::from(station.minimum) * 1_000_000_000)
 }
 
+/// The numbers that the equation takes from curves and from a root: α, a1, aw and bw at the day of the year, the pressure P at the
+/// elevation in kPa, and x, whose square is ea.
+#[derive(Clone, Copy, Debug)]
+pub struct Fractions {
+    pub albedo: f64,
+    pub a1: f64,
+    pub aw: f64,
+    pub bw: f64,
+    pub pressure: f64,
+    pub x: f64,
+}
+
+impl Fractions {
+    /// The formulas' own, unrounded.
+    pub fn of_formulas(station: &Station, day: &Day) -> Self {
+        let d = f64::from(day.d);
+        let bell = |x: f64| (-x * x).exp();
+        let elevation = f64::from(station.elevation);
+        Fractions {
+            albedo: 0.29 + 0.06 * (d + 97.92).to_radians().sin(),
+            a1: 0.26 + 0.1 * bell(0.0154 * (d - 177.0)),
+            aw: 0.4 + 1.4 * bell((d - 173.0) / 58.0),
+            bw: 0.007 + 0.004 * bell((d - 243.0) / 80.0),
+            pressure: 101.3 * ((576_000.0 - 13.0 * elevation) / 576_000.0).powf(5.257),
+            x: ea(day).sqrt(),
+        }
+    }
+}
+
+/// The vapour pressure at the dew point.
+pub fn ea(day: &Day) -> f64 {
+    vapour_pressure(day.dewpoint_or_substitute())
+}
+
 /// The value in inches of a day that none of the refusals holds of.
 pub fn inches(station: &Station, day: &Day, earlier: &Earlier) -> f64 {
-    let d = f64::from(day.d);
-    let bell = |x: f64| (-x * x).exp();
-    let albedo = 0.29 + 0.06 * (d + 97.92).to_radians().sin();
-    let a1 = 0.26 + 0.1 * bell(0.0154 * (d - 177.0));
-    let aw = 0.4 + 1.4 * bell((d - 173.0) / 58.0);
-    let bw = 0.007 + 0.004 * bell((d - 243.0) / 80.0);
-    let elevation = f64::from(station.elevation);
-    let pressure = 101.3 * ((576_000.0 - 13.0 * elevation) / 576_000.0).powf(5.257);
+    let fractions = Fractions::of_formulas(station, day);
+    inches_with(&fractions, station, day, earlier)
+}
 
-    let ea = vapour_pressure(day.dewpoint_or_substitute());
+/// The same with other fractions, such as the ends of their enclosures.
+pub fn inches_with(fractions: &Fractions, station: &Station, day: &Day, earlier: &Earlier) -> f64 {
+    let Fractions {
+        albedo,
+        a1,
+        aw,
+        bw,
+        pressure,
+        x,
+    } = *fractions;
+    let ea = ea(day);
     let delta = 0.2 * y(day.mean).powi(7) - 0.000116;
     let l = 2.501 - 0.002361 * celsius(day.mean);
     let gamma = 0.001005 * pressure / (0.622 * l);
@@ -56,7 +95,7 @@ pub fn inches(station: &Station, day: &Day, earlier: &Earlier) -> f64 {
 
     let fourth = |tenths| (celsius(tenths) + 273.16).powi(4);
     let b = 4.903e-9 * (fourth(day.maximum) + fourth(day.minimum)) / 2.0;
-    let rn = 0.041868 * (1.0 - albedo) * r - (a1 - 0.139 * ea.sqrt()) * b * k;
+    let rn = 0.041868 * (1.0 - albedo) * r - (a1 - 0.139 * x) * b * k;
 
     let present: Vec<f64> = earlier
         .iter()

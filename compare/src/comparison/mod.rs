@@ -3,6 +3,7 @@
 mod crops;
 mod days;
 mod dew_points;
+mod enclosures;
 mod lent;
 mod logs;
 mod months;
@@ -16,6 +17,7 @@ use crate::second::{crop, station};
 use crate::table_text;
 use crops::STANDINGS;
 use days::{compare_days, DayTally};
+use enclosures::{compare_enclosures, EnclosureTally};
 use logs::{compare_logs, LogTally};
 use program::{compare_program, ProgramTally, LOG_KINDS};
 use reports::{REPORTS, TEXT_BUFFERS};
@@ -27,6 +29,7 @@ use tally::LIMITED;
 /// How much is compared.
 pub struct Size {
     days: u64,
+    enclosures: u64,
     sweeps: u64,
     logs: u64,
     cut_logs: u64,
@@ -36,6 +39,7 @@ pub struct Size {
 
 pub const SHORT: Size = Size {
     days: 20_000_000,
+    enclosures: 20_000,
     sweeps: 6,
     logs: 100_000,
     cut_logs: 20,
@@ -45,6 +49,7 @@ pub const SHORT: Size = Size {
 
 pub const LONG: Size = Size {
     days: 400_000_000,
+    enclosures: 1_000_000,
     sweeps: 60,
     logs: 1_500_000,
     cut_logs: 200,
@@ -85,9 +90,11 @@ fn run(size: &Size) -> Result<(), String> {
     program.print();
     let days = compare_days(size)?;
     days.print();
+    let enclosures = compare_enclosures(size)?;
+    enclosures.print();
     let logs = compare_logs(size)?;
     logs.print();
-    all_reached(&days, &logs, &program)
+    all_reached(&days, &enclosures, &logs, &program)
 }
 
 fn in_hex(log: &[u8]) -> String {
@@ -96,10 +103,15 @@ fn in_hex(log: &[u8]) -> String {
 }
 
 /// Fails if a refusal that can be given was never met, a kind of station never accepted, a wind run never cut by a limit
-/// below the routine's, nothing of some sort became of a day without a dew point, a day never stood in some way to a crop, no
-/// report had an end of some month or months that stand in some way to each other, a kind of report was never written to a
-/// kind of text buffer, or the report program never run on a kind of log.
-fn all_reached(days: &DayTally, logs: &LogTally, program: &ProgramTally) -> Result<(), String> {
+/// below the routine's, the ends of the enclosures never tried, nothing of some sort became of a day without a dew point, a day
+/// never stood in some way to a crop, no report had an end of some month or months that stand in some way to each other, a kind
+/// of report was never written to a kind of text buffer, or the report program never run on a kind of log.
+fn all_reached(
+    days: &DayTally,
+    enclosures: &EnclosureTally,
+    logs: &LogTally,
+    program: &ProgramTally,
+) -> Result<(), String> {
     let of_days = [3, 6, 7, 8, 9, 10].map(|number| (number, "days alone", days.refused[number]));
     let of_logs = [1, 2, 3, 4, 5, 12, 13].map(|number| (number, "logs", logs.refused[number]));
     let in_logs =
@@ -143,6 +155,7 @@ fn all_reached(days: &DayTally, logs: &LogTally, program: &ProgramTally) -> Resu
             return Err(format!("no day {of} was {LIMITED}"));
         }
     }
+    enclosures.all_reached()?;
     days.dew_points.all_reached("alone")?;
     logs.dew_points.all_reached("in a log")?;
     if logs.too_short_since_estimates == 0 {

@@ -5,7 +5,7 @@ use std::fmt::Debug;
 
 /// The largest difference from the equation, and the day that has it.
 pub(super) struct Largest<Of> {
-    difference: f64,
+    pub(super) difference: f64,
     day: Option<Of>,
 }
 

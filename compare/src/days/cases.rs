@@ -148,6 +148,59 @@ pub fn halves() -> [Case; 2] {
     ]
 }
 
+/// Days whose figures lie far from the equation. The first has the largest difference that chance has met. The others were found by
+/// climbing from day to day: the first of them lies farthest from the equation at an end of the enclosures, and the other from the
+/// equation itself. Their clear-day sum is below the minimum, which takes its place.
+pub fn far_from_equation() -> [Case; 3] {
+    let far = |code: &[u8; 4], of_station: [i16; 3], (year, d), readings: [i16; 6], earlier| {
+        let [c1, clear_minimum, elevation] = of_station;
+        let [maximum, minimum, mean, dewpoint, radiation, wind] = readings;
+        Case {
+            station: Station {
+                code: *code,
+                c: [c1, 0, 0, 0, 0],
+                minimum: clear_minimum as u16,
+                elevation: elevation as u16,
+                wind_limit: ROUTINE_LIMIT,
+            },
+            day: Day {
+                year,
+                d,
+                maximum,
+                minimum,
+                mean,
+                dewpoint,
+                radiation,
+                wind,
+            },
+            earlier,
+        }
+    };
+    [
+        far(
+            b"RIQT",
+            [102, 108, 1_565],
+            (2_093, 193),
+            [1_263, 543, 583, 138, 1_515, 6_508],
+            [Some(148), Some(405), None],
+        ),
+        far(
+            b"HIGH",
+            [-1, 50, 2_986],
+            (2_008, 185),
+            [1_291, 359, 360, -89, 997, 1_488],
+            [Some(-88), Some(-92), Some(-92)],
+        ),
+        far(
+            b"HIGH",
+            [-1, 50, 2_977],
+            (2_008, 186),
+            [1_291, 350, 350, -94, 1_000, 1_499],
+            [Some(-91), None, None],
+        ),
+    ]
+}
+
 /// Every value of every field's range and one beyond, the other fields kept; each day with its dew point and without.
 pub fn sweep(random: &mut Random) -> impl Iterator<Item = Case> {
     let station = station(random);

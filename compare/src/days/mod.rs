@@ -8,7 +8,7 @@ mod logs;
 mod random;
 mod records;
 
-pub use cases::{case, dew_point_edges, halves, sweep, without_dew_point};
+pub use cases::{case, dew_point_edges, far_from_equation, halves, sweep, without_dew_point};
 pub use damage::{damaged, loose_bytes};
 pub use edges::{crop_edges, dew_point_logs, month_edges, station_edges};
 pub use logs::{answered_log, log_of_length, monthly_log, sound_log};
