@@ -50,7 +50,7 @@ extern "C" {
 }
 
 /// In a verdict's high half, the mark of an estimated figure. No refusal has this number.
-const ESTIMATED: u32 = 256;
+pub const ESTIMATED: u32 = 256;
 
 /// The refusal's number in the high half (0 for none) and the value in the low half.
 #[inline]
