@@ -1,8 +1,10 @@
-//! The proved library's three functions, safe to call: their contracts ask nothing of the numbers, and slices give the pointers.
+//! The proved library's four functions, safe to call: their contracts ask nothing of the numbers, and slices give the pointers.
 use crate::{Day, Earlier, Outcome, Station, Verdict};
 
 // The declarations of crates/exports/fuortwem.h, its parameter names too.
 extern "C" {
+    fn fuortwem_version() -> u32;
+
     fn fuortwem_judge(
         first: u8,
         second: u8,
@@ -47,6 +49,12 @@ extern "C" {
         text: *mut u8,
         text_length: usize,
     ) -> u64;
+}
+
+/// The library's version.
+pub fn version() -> u32 {
+    // SAFETY: the function takes nothing.
+    unsafe { fuortwem_version() }
 }
 
 /// In a verdict's high half, the mark of an estimated figure. No refusal has this number.

@@ -1,5 +1,6 @@
 //! crates/exports/fuortwem.h against what it declares: it compiles as C and as C++ without a warning, each function that it declares
-//! is in the archive and has the parameters of crates/exports/src/lib.rt, and its constants are those of the definitions.
+//! is in the archive and has the parameters of crates/exports/src/lib.rt, and its constants are those of the definitions
+//! and of the archive.
 use std::collections::{BTreeMap, BTreeSet};
 use std::fs;
 use std::io::Write;
@@ -183,6 +184,7 @@ fn constants_are_those_of_the_definitions() {
         assert_eq!(values_in_c, values_in_cpp);
     }
     for (name, expected) in [
+        ("VERSION", compare::office::version().into()),
         (
             "LONGEST_LOG",
             defined("crates/log/specs/Log.antt", "longest"),
