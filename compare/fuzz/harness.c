@@ -21,12 +21,9 @@
 
 enum {
     PAGE = 4096,
-    LONGEST_LOG = 65536,
     /* A log refused as too long, with room to spare. */
-    LOG_ROOM = LONGEST_LOG + 2 * PAGE,
+    LOG_ROOM = FUORTWEM_LONGEST_LOG + 2 * PAGE,
     ANSWER_ROOM = 32 * PAGE,
-    /* No report is longer. */
-    REPORT_LIMIT = 223457,
     /* Room for every report, and for some bytes more. */
     TEXT_ROOM = 56 * PAGE,
     STATION_LENGTH = 19,
@@ -38,16 +35,8 @@ enum {
     STATION_ANSWER_LENGTH = 5,
     /* A day's answer and a crop's. */
     FIGURE_ANSWER_LENGTH = 9,
-    /* The limit of a station of kind 1. */
-    ROUTINE_LIMIT = 1500,
     /* No wind run in range is higher. */
     HIGHEST_WIND = 9999,
-    UNKNOWN_KIND = 1,
-    BAD_STATION = 3,
-    TOO_SHORT_A_BUFFER = 12,
-    BAD_CROP = 13,
-    /* In place of a refusal, the mark of a day without a dew point that has a figure. */
-    ESTIMATED = 256,
     INPUTS_A_PROCESS = 2000,
     /* The two descriptors on which AFL++ speaks to a fork server. */
     CONTROL = 198,
@@ -106,12 +95,12 @@ static bool capitals(const uint8_t *letters) {
 
 static bool is_station(const uint8_t *record) { return record[0] == 1 || record[0] == 8; }
 
-static uint16_t wind_limit(const uint8_t *station) { return station[0] == 8 ? plain(station + 19) : ROUTINE_LIMIT; }
+static uint16_t wind_limit(const uint8_t *station) { return station[0] == 8 ? plain(station + 19) : FUORTWEM_ROUTINE_LIMIT; }
 
 static bool station_in_range(const uint8_t *station) {
     uint16_t minimum = plain(station + 15), elevation = plain(station + 17), limit = wind_limit(station);
     return capitals(station + 1) && minimum >= 50 && minimum <= 200 && elevation <= 3000 && limit >= 1000 &&
-           limit <= ROUTINE_LIMIT;
+           limit <= FUORTWEM_ROUTINE_LIMIT;
 }
 
 /* Whether a reading of this day other than the dew point is missing. */
@@ -143,15 +132,15 @@ static void judge_first_day(const uint8_t *station, const uint8_t *day, const ui
     int16_t minimum = tenths(d + 6), dewpoint = tenths(day + DEW_POINT), wind = tenths(d + 14);
     uint64_t returned = judge(station, limit, day, dewpoint, wind);
     if (wind > limit && wind <= HIGHEST_WIND) {
-        uint64_t at_limit = judge(station, ROUTINE_LIMIT, day, dewpoint, (int16_t)limit);
+        uint64_t at_limit = judge(station, FUORTWEM_ROUTINE_LIMIT, day, dewpoint, (int16_t)limit);
         require(returned == at_limit, "a wind run above the limit counts as the limit");
     }
     if (dew_point_alone_missing(day)) {
         uint64_t substituted = judge(station, limit, day, minimum, wind);
-        uint64_t mark = refusal(substituted) == 0 ? (uint64_t)ESTIMATED << 32 : 0;
+        uint64_t mark = refusal(substituted) == 0 ? (uint64_t)FUORTWEM_ESTIMATED << 32 : 0;
         require(returned == (substituted | mark), "the minimum takes the place of a dew point that alone is missing");
     }
-    bool estimated = refusal(returned) == ESTIMATED, answered = estimated || refusal(returned) == 0;
+    bool estimated = refusal(returned) == FUORTWEM_ESTIMATED, answered = estimated || refusal(returned) == 0;
     uint32_t kind = estimated ? 9 : answered ? 3 : 4;
     uint32_t verdict = answered ? value(returned) : refusal(returned);
     require(answer[0] == kind && memcmp(answer + 1, d, 4) == 0, "a day's answer begins with its kind and date");
@@ -427,7 +416,7 @@ static uint64_t report(const uint8_t *log, size_t log_length, struct buffer answ
     uint64_t returned = fuortwem_report(log, log_length, answers.lent, answers.length, text.lent, text.length);
     require_filler(answers, wrote, pass);
     require(memcmp(kept, answers.lent, wrote) == 0, "a report leaves the answers as read_log does");
-    require(refusal(returned) == 0 || refusal(returned) == TOO_SHORT_A_BUFFER, "a report is written or needs a longer buffer");
+    require(refusal(returned) == 0 || refusal(returned) == FUORTWEM_BUFFER_TOO_SHORT, "a report is written or needs a longer buffer");
     require((refusal(returned) == 0) == (value(returned) <= text.length), "a report is written where it fits");
     require_filler(text, length_written(returned), pass);
     return returned;
@@ -482,16 +471,16 @@ static void try_input(const uint8_t *input, size_t size, bool in_heap) {
     memcpy(log_region.written + (log_region.size - log_length), log, log_length);
     uint8_t *end = answer_region.shown + answer_region.size;
     uint64_t unlent = fuortwem_read_log(last_log, log_length, end, 0);
-    bool sound = refusal(unlent) == 0 || refusal(unlent) == TOO_SHORT_A_BUFFER;
-    require(refusal(unlent) <= 5 || sound || refusal(unlent) == BAD_CROP, "a log's refusal is 1 to 5, 12 or 13");
+    bool sound = refusal(unlent) == 0 || refusal(unlent) == FUORTWEM_BUFFER_TOO_SHORT;
+    require(refusal(unlent) <= 5 || sound || refusal(unlent) == FUORTWEM_CROP_FIELD, "a log's refusal is 1 to 5, 12 or 13");
     const uint8_t *refused = last_log + (sound ? 0 : value(unlent));
-    if (refusal(unlent) == UNKNOWN_KIND) {
+    if (refusal(unlent) == FUORTWEM_UNKNOWN_KIND) {
         require(!is_station(refused) && refused[0] != 2 && refused[0] != 6, "1 is for a kind that is none of 1, 2, 6 and 8");
     }
-    if (refusal(unlent) == BAD_STATION) {
+    if (refusal(unlent) == FUORTWEM_STATION_FIELD) {
         require(is_station(refused) && !station_in_range(refused), "3 is for a station out of range");
     }
-    if (refusal(unlent) == BAD_CROP) {
+    if (refusal(unlent) == FUORTWEM_CROP_FIELD) {
         require(refused[0] == 6 && !crop_in_range(crop_of(refused)), "13 is for a crop out of range");
     }
     require((refusal(unlent) == 0) == (log_length == 0), "without a buffer only the empty log is accepted");
@@ -510,7 +499,7 @@ static void try_input(const uint8_t *input, size_t size, bool in_heap) {
 
     uint64_t too_short = report(last_log, log_length, last, expected, placed(text_region, 0, true), 2);
     size_t text_needed = value(too_short);
-    require(refusal(too_short) == TOO_SHORT_A_BUFFER && text_needed <= REPORT_LIMIT, "a report has 1 to 223,457 bytes");
+    require(refusal(too_short) == FUORTWEM_BUFFER_TOO_SHORT && text_needed <= FUORTWEM_LONGEST_REPORT, "no report is empty or longer than the longest");
     returned = report(last_log, log_length, last, expected, placed(text_region, text_needed - 1, true), 3);
     require(returned == too_short, "one byte less than a report needs is too short");
     struct buffer text = placed(text_region, text_needed, true);
