@@ -157,6 +157,17 @@ mod tests {
     }
 
     #[test]
+    fn a_day_is_farther_from_the_equation_itself_than_chance_has_met() {
+        let [by_chance, _, climbed] = days::far_from_equation().map(|case| {
+            let figure = office::judge(&case.station, &case.day, &case.earlier).figure();
+            let inches = equation::inches(&case.station, &case.day, &case.earlier);
+            (f64::from(figure.expect("it is answered")) - 10_000.0 * inches).abs()
+        });
+        assert!((by_chance - 0.504_459).abs() < 1e-6);
+        assert!((climbed - 0.506_330).abs() < 1e-6);
+    }
+
+    #[test]
     fn a_root_that_is_a_multiple_has_both_its_neighbours() {
         assert_eq!(ends_of_root(0.25), [0.499_999_99, 0.5, 0.500_000_01]);
         assert_eq!(ends_of_root(5.0), [2.236_067_97, 2.236_067_98]);
