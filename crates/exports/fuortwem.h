@@ -35,18 +35,18 @@
 
 /* The refusals' numbers. 11 was one once, and is given to nothing else. */
 enum fuortwem_refusal {
-    FUORTWEM_UNKNOWN_KIND = 1,     /* log: no record has this kind */
-    FUORTWEM_CUT_OFF = 2,          /* log: it ends inside a record */
-    FUORTWEM_STATION_FIELD = 3,    /* log or day alone: a field of the station is out of range */
-    FUORTWEM_NO_STATION = 4,       /* log: a day or a crop before any station */
-    FUORTWEM_LOG_TOO_LONG = 5,     /* log: it is longer than FUORTWEM_LONGEST_LOG */
-    FUORTWEM_BAD_DATE = 6,         /* day: no date of the calendar or, in a log, not after the last good one */
-    FUORTWEM_READING_MISSING = 7,  /* day: a reading is missing, and not the dew point alone */
-    FUORTWEM_OUT_OF_RANGE = 8,     /* day: a reading is out of range, or an earlier mean that is handed in */
-    FUORTWEM_OUT_OF_ORDER = 9,     /* day: minimum above mean, mean above maximum, or dew point above maximum */
-    FUORTWEM_ABOVE_CLEAR = 10,     /* day: radiation above twice that of a clear day */
+    FUORTWEM_UNKNOWN_KIND = 1,      /* log: no record has this kind */
+    FUORTWEM_CUT_OFF = 2,           /* log: it ends inside a record */
+    FUORTWEM_STATION_FIELD = 3,     /* log or day alone: a field of the station is out of range */
+    FUORTWEM_NO_STATION = 4,        /* log: a day or a crop before any station */
+    FUORTWEM_LOG_TOO_LONG = 5,      /* log: it is longer than FUORTWEM_LONGEST_LOG */
+    FUORTWEM_BAD_DATE = 6,          /* day: no date of the calendar or, in a log, not after the last good one */
+    FUORTWEM_READING_MISSING = 7,   /* day: a reading is missing, and not the dew point alone */
+    FUORTWEM_OUT_OF_RANGE = 8,      /* day: a reading is out of range, or an earlier mean that is handed in */
+    FUORTWEM_OUT_OF_ORDER = 9,      /* day: minimum above mean, mean above maximum, or dew point above maximum */
+    FUORTWEM_ABOVE_CLEAR = 10,      /* day: radiation above twice that of a clear day */
     FUORTWEM_BUFFER_TOO_SHORT = 12, /* a lent buffer is shorter than needed; the value is the length needed */
-    FUORTWEM_CROP_FIELD = 13       /* log: a field of a crop is out of range */
+    FUORTWEM_CROP_FIELD = 13        /* log: a field of a crop is out of range */
 };
 
 /* The kinds of answers: the first byte of each. FUORTWEM_ANSWER_STATION has 5 bytes, each other one 9. */
