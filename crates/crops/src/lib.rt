@@ -1,4 +1,6 @@
 // A crop of a block, by document 02, W1: what refuses its record, its percentage on a day, and its figure.
+#![tactic(auto)]
+
 use day::Code;
 
 pub mod figure;
@@ -6,7 +8,7 @@ pub mod percentage;
 pub mod rules;
 
 // A crop: its four capitals, its year, the start day S, the full day F, and a percentage for each of the stages 0 to 10.
-#[derive(Drop)]
+#[derive(Clone, Copy)]
 pub struct Crop {
     pub code: Code,
     pub year: u16,
@@ -16,7 +18,7 @@ pub struct Crop {
 }
 
 // A crop's share of a day's figure: its letters, and its percentage as what stands above L, and L.
-#[derive(Drop)]
+#[derive(Clone, Copy)]
 pub struct Share {
     pub code: Code,
     pub above: u32,
@@ -24,7 +26,7 @@ pub struct Share {
 }
 
 // What grows on a day: a crop, with its share, or nothing.
-#[derive(Drop)]
+#[derive(Clone, Copy)]
 pub enum Growing {
     Crop(Share),
     Nothing,

@@ -1,4 +1,6 @@
 // One station day judged alone: its figure, or the first refusal that holds of it. Nothing is asked of the caller.
+#![tactic(auto)]
+
 ghost use Rattle.std.specs.Prelude.{◌≡◌};
 ghost use Rattle.day.specs.Rules.{number_of};
 
@@ -11,7 +13,7 @@ pub mod refusals;
 pub mod rules;
 
 // A station's four capitals.
-#[derive(Drop)]
+#[derive(Clone, Copy)]
 pub struct Code {
     pub first: u8,
     pub second: u8,
@@ -21,7 +23,7 @@ pub struct Code {
 
 // A station. c1 to c5 are in units of 1, 0.001, 0.0001, 0.000001 and 0.000000001 cal/cm²/d, the clear-day minimum in cal/cm²/d, the elevation in metres,
 // the limit of the wind run in tenths of a mile.
-#[derive(Drop)]
+#[derive(Clone, Copy)]
 pub struct Station {
     pub code: Code,
     pub c1: i16,
@@ -35,7 +37,7 @@ pub struct Station {
 }
 
 // A day: the year, the day of the year, and six readings in tenths, each possibly missing.
-#[derive(Drop)]
+#[derive(Clone, Copy)]
 pub struct Day {
     pub year: u16,
     pub d: u16,
@@ -48,14 +50,14 @@ pub struct Day {
 }
 
 // The mean of an earlier day, in tenths.
-#[derive(Drop)]
+#[derive(Clone, Copy)]
 pub enum Mean {
     Present(i16),
     Absent,
 }
 
 // The means of the three calendar days before.
-#[derive(Drop)]
+#[derive(Clone, Copy)]
 pub struct Earlier {
     pub one: Mean,
     pub two: Mean,
@@ -63,7 +65,7 @@ pub struct Earlier {
 }
 
 // Why a day gets no figure; specs/Rules.antt gives each its number. 11 was a refusal once, and is given to nothing else.
-#[derive(Drop)]
+#[derive(Clone, Copy)]
 pub enum Refusal {
     StationField,
     BadDate,
@@ -74,14 +76,14 @@ pub enum Refusal {
 }
 
 // What refuses a day, or that nothing does.
-#[derive(Drop)]
+#[derive(Clone, Copy)]
 pub enum Standing {
     Refused(Refusal),
     Answered,
 }
 
 // The figure in 0.0001 inch, or the refusal; or the figure with the mark that the minimum stood for a missing dew point.
-#[derive(Drop)]
+#[derive(Clone, Copy)]
 pub enum Verdict {
     Figure(u32),
     Refused(Refusal),

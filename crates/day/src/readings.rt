@@ -4,7 +4,7 @@ ghost use Rattle.numbers.specs.Ranges.{in_range};
 ghost use Rattle.sheet.specs.Limits as limits;
 
 // A temperature in tenths of a degree Fahrenheit.
-#[derive(Drop)]
+#[derive(Clone, Copy)]
 pub struct Temperature {
     pub tenths: i16,
 }
@@ -23,7 +23,7 @@ impl Temperature {
 }
 
 // Solar radiation in tenths of a cal/cm²/d.
-#[derive(Drop)]
+#[derive(Clone, Copy)]
 pub struct Radiation {
     pub tenths: i16,
 }
@@ -42,7 +42,7 @@ impl Radiation {
 }
 
 // A wind run in tenths of a mile.
-#[derive(Drop)]
+#[derive(Clone, Copy)]
 pub struct Wind {
     pub tenths: i16,
 }
@@ -61,7 +61,7 @@ impl Wind {
 }
 
 // A station's clear-day minimum, in cal/cm²/d.
-#[derive(Drop)]
+#[derive(Clone, Copy)]
 pub struct ClearMinimum {
     pub calories: u16,
 }
@@ -80,7 +80,7 @@ impl ClearMinimum {
 }
 
 // A station's elevation, in metres.
-#[derive(Drop)]
+#[derive(Clone, Copy)]
 pub struct Elevation {
     pub metres: u16,
 }
@@ -99,7 +99,7 @@ impl Elevation {
 }
 
 // A station's limit of the wind run, in tenths of a mile.
-#[derive(Drop)]
+#[derive(Clone, Copy)]
 pub struct WindLimit {
     pub tenths: u16,
 }

@@ -1,5 +1,7 @@
 // The judge of days, the reader of logs and the writer of reports for programs in other languages, over numbers and byte slices alone. fuortwem.h
 // declares them.
+#![tactic(auto)]
+
 ghost use Rattle.std.specs.Prelude.{◌≡◌, length};
 ghost use Rattle.day.specs.Judgement.{judged};
 ghost use Rattle.promises.specs.CropFigures.{CropFiguresOwed};

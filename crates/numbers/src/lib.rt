@@ -1,4 +1,6 @@
 // Whole-number code that the step sheet shares: its two quotients, and the whole square root.
+#![tactic(auto)]
+
 ghost use Rattle.std.specs.Prelude.{◌≡◌, ◌^◌, ◌≤◌, ◌<◌, pos, ◌≤ℤ◌, ◌<ℤ◌};
 ghost use Rattle.numbers.specs.Whole.{◌÷↓◌, ◌÷0◌};
 ghost use Rattle.numbers.specs.Root.{WholeRoot};

@@ -1,4 +1,6 @@
 // A station log read to its end or refused, with what is promised of its figures.
+#![tactic(auto)]
+
 ghost use Rattle.log.specs.Log.{Read};
 ghost use Rattle.promises.specs.CropFigures.{CropFiguresOwed};
 ghost use Rattle.promises.specs.Demand.{NotRefused, FiguresOwed};

@@ -1,11 +1,13 @@
 // The report: a station log on standard input, its report on standard output; for an argument, an input that cannot be read to its end and an output
 // that takes no more, a line on standard error.
+#![tactic(auto)]
+
 ghost use Rattle.io.specs.Counts.{IsPrefixLen};
 
 use libc::{STDERR_FILENO, STDIN_FILENO, STDOUT_FILENO};
 
 // How many bytes were read, and whether a read failed behind them.
-#[derive(Drop)]
+#[derive(Clone, Copy)]
 struct Input {
     size: usize,
     failed: bool,

@@ -1,5 +1,6 @@
 // The step sheet in whole numbers: what one station day's readings, table entries and earlier means come to. Each function is a line of the
 // document's sheet, in i64; its contract is that line and the range of its result.
+#![tactic(auto)]
 
 pub mod clear;
 pub mod figure;
@@ -9,7 +10,7 @@ pub mod weights;
 pub mod wind;
 
 // A day's readings, in tenths of a degree Fahrenheit, of a cal/cm²/d and of a mile.
-#[derive(Drop)]
+#[derive(Clone, Copy)]
 pub struct Readings {
     pub maximum: i64,
     pub minimum: i64,
@@ -20,7 +21,7 @@ pub struct Readings {
 }
 
 // The entries of the constant tables at the day and at the station's elevation.
-#[derive(Drop)]
+#[derive(Clone, Copy)]
 pub struct Entries {
     pub albedo: i64,
     pub a1: i64,
@@ -30,7 +31,7 @@ pub struct Entries {
 }
 
 // The earlier means: how many of the last three calendar days have one, k, and their sum, z.
-#[derive(Drop)]
+#[derive(Clone, Copy)]
 pub struct Earlier {
     pub k: i64,
     pub z: i64,

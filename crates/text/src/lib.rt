@@ -1,4 +1,6 @@
 // The report of a log as text: the log's bytes in, the answers and the whole text in lent buffers.
+#![tactic(auto)]
+
 ghost use Rattle.std.specs.Prelude.{List, ◌++◌, ◌≡◌, ◌≤◌, length};
 ghost use Rattle.promises.specs.CropFigures.{CropFiguresOwed};
 ghost use Rattle.promises.specs.Demand.{FiguresOwed};
@@ -18,7 +20,7 @@ mod season;
 mod walk;
 
 // The length of the text written, or the length that a text buffer needs.
-#[derive(Drop)]
+#[derive(Clone, Copy)]
 pub enum Printed {
     Written(usize),
     Needs(usize),

@@ -15,14 +15,14 @@ use lines::single::{crop_line, day_line};
 use lines::whole::{put_crop_line, put_day_line};
 
 // A block: its station's code, and the index of its first answer.
-#[derive(Drop)]
+#[derive(Clone, Copy)]
 pub struct Block {
     pub code: Code,
     pub from: usize,
 }
 
 // The block whose answers are being printed.
-#[derive(Drop)]
+#[derive(Clone, Copy)]
 pub enum Open {
     NoBlock,
     In(Block),

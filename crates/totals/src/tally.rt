@@ -9,21 +9,21 @@ use day::Verdict;
 use day::calendar::FIRST_YEAR;
 
 // Days answered and the sum of their figures, in 0.0001 inch.
-#[derive(Drop)]
+#[derive(Clone, Copy)]
 pub struct Total {
     pub days: u32,
     pub sum: u64,
 }
 
 // What an answer adds: nothing, or a day of a month of a year, with its figure.
-#[derive(Drop)]
+#[derive(Clone, Copy)]
 pub enum Counted {
     Nothing,
     Day(u16, u16, u32),
 }
 
 // The month that is open with its total so far, and the season's.
-#[derive(Drop)]
+#[derive(Clone, Copy)]
 pub struct Tally {
     pub year: u16,
     pub month: u16,

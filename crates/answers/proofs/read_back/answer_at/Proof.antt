@@ -4,8 +4,8 @@ use native.Mathlib.Omega.{arith}
 use lib.ListN.{length}
 use borrow.Author.Rules.{rules}
 use Rattle.answers.proofs.ReadBack.{five_there, nine_there, is_station, is_crop, is_figure, is_estimate, is_refusal}
-use Rattle.answers.proofs.read_back_lem.answer_at.Statement.{statement}
-use Rattle.answers.proofs.read_back_lem.answer_at.Tie as tie
+use Rattle.answers.proofs.read_back.answer_at.Statement.{statement}
+use Rattle.answers.proofs.read_back.answer_at.Tie as tie
 
 five : (s : tie.Start) → s.args.at + 5 ≤ length s.args.answers.now
 five s = five_there s.requires.0 s.requires.1

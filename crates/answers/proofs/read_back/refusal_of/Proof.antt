@@ -6,8 +6,8 @@ use Rattle.day.specs.Rules.{number_of}
 use Rattle.day.specs.declared.Refusal.{Refusal}
 use Rattle.day.specs.declared.Refusal.TheVariants.{StationField, BadDate, Missing, OutOfRange, OutOfOrder, AboveClear}
 use Rattle.answers.proofs.ReadBack.{one_number}
-use Rattle.answers.proofs.read_back_lem.refusal_of.Statement.{statement}
-use Rattle.answers.proofs.read_back_lem.refusal_of.Tie as tie
+use Rattle.answers.proofs.read_back.refusal_of.Statement.{statement}
+use Rattle.answers.proofs.read_back.refusal_of.Tie as tie
 
 -- the number that was tested is the refusal's
 named : {n : ℕ} (r : Refusal) → n ≡ number_of r → (why : Refusal) → n ≡ number_of why → r ≡ why
