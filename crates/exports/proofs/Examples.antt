@@ -7,7 +7,7 @@ use Rattle.day.specs.declared.Verdict.TheVariants.{Figure}
 use Rattle.day.proofs.Examples.{days}
 use Rattle.exports.specs.HandedIn.{station_of, day_of, mean_of, three_before}
 use Rattle.exports.specs.Told.{accepted, refused, estimated, said_by, outcome_said, printed_said}
-use Rattle.log.specs.declared.Outcome.TheVariants as outcome
+use Rattle.station_log.specs.declared.Outcome.TheVariants as outcome
 use Rattle.text.specs.declared.Printed.TheVariants as printed
 
 -- the summer day at LIDW after means of 71 and 70 °F, by its 26 numbers

@@ -7,10 +7,10 @@ use borrow.Author.Tests.{ne_eqb}
 use lib.ListN.{length}
 use Rattle.day.proofs.Tests.{first_there}
 use Rattle.exports.specs.Told.{refused, mark_number, said, said_by, outcome_said, LengthSaid}
-use Rattle.log.proofs.OutcomeSize.{Small, outcome_small}
-use Rattle.log.specs.Log.{outcome_of}
+use Rattle.station_log.proofs.OutcomeSize.{Small, outcome_small}
+use Rattle.station_log.specs.Log.{outcome_of}
 use Rattle.promises.specs.Demand.{AnsweredLog}
-use Rattle.log.specs.declared.Outcome.TheVariants.{Written, Refused}
+use Rattle.station_log.specs.declared.Outcome.TheVariants.{Written, Refused}
 
 module _ (s : List ℕ) (size : ℕ) where
   pub written_small : {n : ℕ} → Written n ≡ outcome_of s size → n < 4294967296

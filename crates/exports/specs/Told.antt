@@ -9,8 +9,8 @@ use Rattle.day.specs.declared.Earlier.{Earlier}
 use Rattle.day.specs.declared.Station.{Station}
 use Rattle.day.specs.declared.Verdict.{Verdict}
 use Rattle.day.specs.declared.Verdict.TheVariants.{Figure, Refused, Estimated}
-use Rattle.log.specs.declared.Outcome.{Outcome}
-use Rattle.log.specs.declared.Outcome.TheVariants as outcome
+use Rattle.station_log.specs.declared.Outcome.{Outcome}
+use Rattle.station_log.specs.declared.Outcome.TheVariants as outcome
 use Rattle.promises.specs.Demand.{AnsweredLog}
 use Rattle.text.specs.Report.{ReportOwed}
 use Rattle.text.specs.declared.Printed.{Printed}

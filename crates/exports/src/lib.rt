@@ -6,7 +6,7 @@ ghost use Rattle.std.specs.Prelude.{◌≡◌, length};
 ghost use Rattle.day.specs.Judgement.{judged};
 ghost use Rattle.promises.specs.CropFigures.{CropFiguresOwed};
 ghost use Rattle.promises.specs.Demand.{FiguresOwed};
-ghost use Rattle.log.specs.Log.{outcome_of, buffer_after};
+ghost use Rattle.station_log.specs.Log.{outcome_of, buffer_after};
 ghost use Rattle.text.specs.Report.{report_of, printed_in, text_over};
 ghost use Rattle.exports.specs.HandedIn.{station_of, day_of, mean_of, three_before};
 ghost use Rattle.exports.specs.Told.{said, said_by, verdict_said, outcome_said, printed_said, FigureSaid, LengthSaid, ReportSaid};
@@ -14,7 +14,7 @@ ghost use Rattle.exports.specs.Version.{version};
 
 use day::judge::judge;
 use day::{Code, Day, Earlier, Mean, Station, Verdict};
-use log::Outcome;
+use station_log::Outcome;
 use text::Printed;
 
 // The number of the mark in the high half: a refusal's has one byte.

@@ -21,10 +21,10 @@ use Rattle.day.specs.declared.Verdict.{Verdict}
 use Rattle.day.specs.declared.Verdict.TheVariants as verdict
 use Rattle.day.proofs.WithoutSubstitute as day-since
 use Rattle.day.proofs.WithoutSubstitute.{judged_strictly, with_minimum, estimated}
-use Rattle.log.specs.History.{good_date, earlier_means, verdict_of}
-use Rattle.log.specs.Log.{BlockRead, Entry, day, crop_answers, day_answers, answers_for, answers_of}
-use Rattle.log.proofs.Laws.{DayIn, day_in, entry_cases}
-use Rattle.log.proofs.Planted.{none_refused, one_most}
+use Rattle.station_log.specs.History.{good_date, earlier_means, verdict_of}
+use Rattle.station_log.specs.Log.{BlockRead, Entry, day, crop_answers, day_answers, answers_for, answers_of}
+use Rattle.station_log.proofs.Laws.{DayIn, day_in, entry_cases}
+use Rattle.station_log.proofs.Planted.{none_refused, one_most}
 use Rattle.promises.proofs.WithoutSubstitute.{verdict_strictly, by_day, day_strictly, answers_strictly, of_records, Stays, AllStay, added_at, added_to}
 
 -- ---- a day

@@ -20,11 +20,11 @@ use Rattle.answers.specs.Answers.{value_of, day_answer, answer_bytes}
 use Rattle.answers.specs.declared.Answer.TheVariants as answer
 use Rattle.promises.specs.CropFigures.{CropDay, CropFigureAt, CropFiguresOwed}
 use Rattle.promises.specs.Demand.{AnsweredLog, NotRefused, FiguresOwed}
-use Rattle.log.specs.Log.{Planted, planted, crop_answer, crop_answers, buffer_after, Read}
-use Rattle.log.specs.declared.Outcome.{Outcome}
+use Rattle.station_log.specs.Log.{Planted, planted, crop_answer, crop_answers, buffer_after, Read}
+use Rattle.station_log.specs.declared.Outcome.{Outcome}
 use Rattle.promises.proofs.Days.{answer_at, crop_answer_at}
 use Rattle.promises.proofs.Demand.{marked_bytes, answered, not_refused, log_within_bound}
-use Rattle.log.proofs.SoundStation.{station_constants}
+use Rattle.station_log.proofs.SoundStation.{station_constants}
 use Rattle.promises.proofs.Stations.{station_sound, crop_faultless}
 
 -- the promise: `read` gives the buffer that a reader leaves, of the log and of the buffer lent

@@ -6,10 +6,10 @@ use lib.ListN.{length, take, drop}
 use Rattle.day.specs.declared.Day.{Day}
 use Rattle.answers.specs.Answers.{bytes_of}
 use Rattle.promises.specs.Days.{DayAt}
-use Rattle.log.specs.History.{good_date, earlier_means}
-use Rattle.log.specs.Log as log
-use Rattle.log.specs.Log.{BlockRead, answers_of, accepted, reading_of}
-use Rattle.log.specs.Parts.{entries_of}
+use Rattle.station_log.specs.History.{good_date, earlier_means}
+use Rattle.station_log.specs.Log as log
+use Rattle.station_log.specs.Log.{BlockRead, answers_of, accepted, reading_of}
+use Rattle.station_log.specs.Parts.{entries_of}
 
 -- record n of a log is the day x of the block b, and its answer stands at `place`: what there is to compute
 unfoldable pub day_there : (s : List ℕ) (n : ℕ) (b : BlockRead) (x : Day) {place : ℕ}

@@ -13,11 +13,11 @@ use Rattle.day.specs.declared.Station.{Station}
 use Rattle.day.specs.declared.Verdict.{Verdict}
 use Rattle.answers.specs.Answers.{day_answer, answer_bytes, bytes_of}
 use Rattle.promises.specs.Days.{DayAt}
-use Rattle.log.specs.History.{verdict_of}
-use Rattle.log.specs.Log.{day, crop_answers, answers_of, outcome_of, buffer_after}
-use Rattle.log.specs.declared.Outcome.TheVariants.{Written}
+use Rattle.station_log.specs.History.{verdict_of}
+use Rattle.station_log.specs.Log.{day, crop_answers, answers_of, outcome_of, buffer_after}
+use Rattle.station_log.specs.declared.Outcome.TheVariants.{Written}
 use Rattle.answers.specs.declared.Answer.{Answer}
-use Rattle.log.proofs.Means.{good_date_lem}
+use Rattle.station_log.proofs.Means.{good_date_lem}
 use Rattle.promises.proofs.RecordPlaces.{part_at, rest, about_record}
 use Rattle.day.specs.Judgement.{judged}
 use Rattle.day.specs.declared.Refusal.TheVariants.{BadDate}

@@ -16,9 +16,9 @@ use Rattle.day.proofs.Marks.{either_way}
 use Rattle.answers.specs.Answers.{kind_of, value_of, dated, day_answer, answer_bytes}
 use lib.ListN.{length}
 use Rattle.promises.specs.Demand.{AnsweredLog, AnsweredDay, FigureAt, NotRefused, FiguresOwed, EveryFigureWithinBound}
-use Rattle.log.specs.Log.{outcome_of, buffer_after}
+use Rattle.station_log.specs.Log.{outcome_of, buffer_after}
 use Rattle.promises.proofs.Days.{answer_at, good_in_calendar}
-use Rattle.log.proofs.SoundStation.{station_constants}
+use Rattle.station_log.proofs.SoundStation.{station_constants}
 use Rattle.promises.proofs.Stations.{station_sound}
 
 -- the mark changes an answer's kind and not its figure

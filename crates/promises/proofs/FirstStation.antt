@@ -13,8 +13,8 @@ use Rattle.records.specs.declared.Record.{Record}
 use Rattle.records.specs.declared.Record.TheVariants as Record
 use Rattle.records.proofs.Alike.{Alike}
 use Rattle.records.proofs.Part.{Part, rest_part}
-use Rattle.log.specs.Log.{Past, block, opened, station, fault, enters, goes_to, step_of, Reading, refused, prepend, onward, read_from}
-use Rattle.log.proofs.Steps.{steps_enough}
+use Rattle.station_log.specs.Log.{Past, block, opened, station, fault, enters, goes_to, step_of, Reading, refused, prepend, onward, read_from}
+use Rattle.station_log.proofs.Steps.{steps_enough}
 use Rattle.promises.proofs.TwoParts.{moved, read_last}
 
 -- the reading of a log that begins with a station's record of n bytes

@@ -21,10 +21,10 @@ use Rattle.answers.specs.Answers.{kind_of, dated}
 use Rattle.records.specs.Bytes.{word_at, signed_of, signed_at}
 use Rattle.records.specs.Record.{station_at, day_at, record_at}
 use Rattle.promises.specs.Demand.{AnsweredLog, FigureAt, NotRefused, FiguresOwed, EveryFigureWithinBound}
-use Rattle.log.specs.Log.{read_from, reading_of, outcome_of}
-use Rattle.log.specs.declared.Outcome.{Outcome}
-use Rattle.log.specs.declared.Outcome.TheVariants.{Written, Refused}
-use Rattle.log.proofs.Sample.{sample, two_means}
+use Rattle.station_log.specs.Log.{read_from, reading_of, outcome_of}
+use Rattle.station_log.specs.declared.Outcome.{Outcome}
+use Rattle.station_log.specs.declared.Outcome.TheVariants.{Written, Refused}
+use Rattle.station_log.proofs.Sample.{sample, two_means}
 use Rattle.promises.proofs.WorkedCrop.{crop_log, crop_day, other_means, second_day, outcome_is}
 use Rattle.promises.proofs.WorkedLog.{means, answered}
 

@@ -16,12 +16,12 @@ use Rattle.records.specs.Bytes.{word_at}
 use Rattle.records.specs.Record.{station_with, station_at, limited_station_at, record_at}
 use Rattle.records.specs.declared.Record.TheVariants as Record
 use Rattle.records.proofs.Bodies.{station_alike}
-use Rattle.log.specs.Log.{Past, unopened, block, opened, Entry, station, past_all, answers_in}
-use Rattle.log.specs.Log.{Reading, refused, accepted, prepend, read_from, reading_of, settled, longest, outcome_of, leaves, buffer_after}
-use Rattle.log.specs.declared.Outcome.TheVariants.{Refused}
+use Rattle.station_log.specs.Log.{Past, unopened, block, opened, Entry, station, past_all, answers_in}
+use Rattle.station_log.specs.Log.{Reading, refused, accepted, prepend, read_from, reading_of, settled, longest, outcome_of, leaves, buffer_after}
+use Rattle.station_log.specs.declared.Outcome.TheVariants.{Refused}
 use Rattle.promises.proofs.FirstStation.{opened_by, log, fields_there, first_read}
 use Rattle.promises.proofs.TwoParts.{moved, two_parts}
-use Rattle.log.proofs.Walked.{behind, behind_refused, behind_accepted}
+use Rattle.station_log.proofs.Walked.{behind, behind_refused, behind_accepted}
 
 -- ---- the record before, and the one in its place
 

@@ -12,11 +12,11 @@ use lib.ListN.{length, take, drop}
 use Rattle.answers.specs.Answers.{bytes_of}
 use Rattle.answers.specs.declared.Answer.{Answer}
 use Rattle.answers.proofs.Bytes.{bytes_append, bytes_longer}
-use Rattle.log.specs.Log.{Entry, unopened, past_all, answers_of, answers_at_end, all_answers, answers_in, Reading, refused, accepted, reading_of, fitted, settled, longest, outcome_of, leaves, buffer_after}
-use Rattle.log.specs.Parts.{entries_of}
-use Rattle.log.specs.declared.Outcome.{Outcome}
-use Rattle.log.specs.declared.Outcome.TheVariants.{Written, Refused}
-use Rattle.log.proofs.OutcomeSize.{number_in}
+use Rattle.station_log.specs.Log.{Entry, unopened, past_all, answers_of, answers_at_end, all_answers, answers_in, Reading, refused, accepted, reading_of, fitted, settled, longest, outcome_of, leaves, buffer_after}
+use Rattle.station_log.specs.Parts.{entries_of}
+use Rattle.station_log.specs.declared.Outcome.{Outcome}
+use Rattle.station_log.specs.declared.Outcome.TheVariants.{Written, Refused}
+use Rattle.station_log.proofs.OutcomeSize.{number_in}
 use Rattle.promises.proofs.AnswersSince.{answers_stay, substituted, all_longer, all_stay}
 use Rattle.promises.proofs.RecordPlaces.{part_at, own_answers}
 use Rattle.promises.proofs.WithoutSubstitute.{answers_strictly, of_records, all_strictly, settled_strictly, outcome_strictly, buffer_strictly, AllStay, added_to, Places, Since}

@@ -7,10 +7,10 @@ use lib.ListN.{length, take, drop}
 use lib.Seq.{take_at, drop_at}
 use Rattle.answers.specs.Answers.{bytes_of}
 use Rattle.answers.proofs.Bytes.{bytes_append}
-use Rattle.log.specs.Log.{unopened, Entry, past_all, answers_for, answers_of, answers_at_end, answers_in, answers_to, Reading, accepted, reading_of, outcome_of, leaves, buffer_after}
-use Rattle.log.specs.declared.Outcome.{Outcome}
-use Rattle.log.specs.declared.Outcome.TheVariants.{Written}
-use Rattle.log.proofs.Walked.{answers_append, all_bytes}
+use Rattle.station_log.specs.Log.{unopened, Entry, past_all, answers_for, answers_of, answers_at_end, answers_in, answers_to, Reading, accepted, reading_of, outcome_of, leaves, buffer_after}
+use Rattle.station_log.specs.declared.Outcome.{Outcome}
+use Rattle.station_log.specs.declared.Outcome.TheVariants.{Written}
+use Rattle.station_log.proofs.Walked.{answers_append, all_bytes}
 
 -- k bytes behind a list of `place` bytes
 pub part_at : (front own rest : List ℕ) {k place : ℕ} → length own ≡ k → place ≡ length front → take k (drop place (front ++ (own ++ rest))) ≡ own

@@ -8,12 +8,12 @@ use Rattle.crops.specs.declared.Crop.{Crop}
 use Rattle.day.specs.declared.Day.{Day}
 use Rattle.day.specs.declared.Earlier.{Earlier}
 use Rattle.day.specs.declared.Station.{Station}
-use Rattle.log.specs.Log.{planted, Reading, day}
-use Rattle.log.specs.Parts.{entries_of}
-use Rattle.log.proofs.Laws.{KeptBlock, Kept}
-use Rattle.log.proofs.Planted.{PlantedSound}
-use Rattle.log.proofs.SoundRecords.{SoundEntries, sound_at, sound_reading}
-use Rattle.log.proofs.SoundStation.{Sound}
+use Rattle.station_log.specs.Log.{planted, Reading, day}
+use Rattle.station_log.specs.Parts.{entries_of}
+use Rattle.station_log.proofs.Laws.{KeptBlock, Kept}
+use Rattle.station_log.proofs.Planted.{PlantedSound}
+use Rattle.station_log.proofs.SoundRecords.{SoundEntries, sound_at, sound_reading}
+use Rattle.station_log.proofs.SoundStation.{Sound}
 use Rattle.promises.specs.Days.{DayAt}
 
 module _ (s : List ℕ) {i : ℕ} {x : Station} {y : Day} {earlier : Earlier} {good : Bool} {place : ℕ} (d : DayAt s i x y earlier good place) where

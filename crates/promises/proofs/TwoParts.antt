@@ -7,12 +7,12 @@ use native.Mathlib.Omega.{arith}
 use lib.ListN.{length, length-append}
 use Rattle.records.specs.Record.{Found, end, unknown, short, whole, found_at}
 use Rattle.records.proofs.Part.{Part, front_part, rest_part, moved_found, LogEnds, found_moved}
-use Rattle.log.specs.Log.{Past, unopened, Entry, past, past_all, Step, ends, faulty, holds, Entered, fault, enters, enter, goes_to, step_of, step_at}
-use Rattle.log.specs.Log.{Reading, refused, accepted, prepend, onward, read_from, reading_of}
-use Rattle.log.proofs.Laws.{counts}
-use Rattle.log.proofs.Stands.{step_ends, step_stands}
-use Rattle.log.proofs.Steps.{steps_enough}
-use Rattle.log.proofs.Walked.{behind}
+use Rattle.station_log.specs.Log.{Past, unopened, Entry, past, past_all, Step, ends, faulty, holds, Entered, fault, enters, enter, goes_to, step_of, step_at}
+use Rattle.station_log.specs.Log.{Reading, refused, accepted, prepend, onward, read_from, reading_of}
+use Rattle.station_log.proofs.Laws.{counts}
+use Rattle.station_log.proofs.Stands.{step_ends, step_stands}
+use Rattle.station_log.proofs.Steps.{steps_enough}
+use Rattle.station_log.proofs.Walked.{behind}
 
 -- the reading of a log that stands n bytes further on
 abbrev pub moved : ℕ → Reading → Reading

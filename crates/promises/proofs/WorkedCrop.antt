@@ -27,11 +27,11 @@ use Rattle.records.specs.Record.{station_at, day_at, crop_at, record_at}
 use Rattle.promises.specs.CropFigures.{CropDay, CropFigureAt, CropFiguresOwed}
 use Rattle.promises.proofs.CropFigures.{EveryCropFigure, crop_figures_met}
 use Rattle.promises.specs.Demand.{AnsweredLog, AnsweredDay}
-use Rattle.log.specs.History.{days_before, good_date, counted, earlier_means, verdict_of}
-use Rattle.log.specs.Log.{bare, planted, crop_answers, answers_to, read_from, reading_of, outcome_of, leaves, buffer_after}
-use Rattle.log.specs.declared.Outcome.TheVariants as outcome
+use Rattle.station_log.specs.History.{days_before, good_date, counted, earlier_means, verdict_of}
+use Rattle.station_log.specs.Log.{bare, planted, crop_answers, answers_to, read_from, reading_of, outcome_of, leaves, buffer_after}
+use Rattle.station_log.specs.declared.Outcome.TheVariants as outcome
 use Rattle.promises.proofs.WithoutKind.{found_without, read_without, reading_without, Without}
-use Rattle.log.proofs.Sample.{sample, station, windless, beans, lidw, missing, no_mean, one_mean, two_means}
+use Rattle.station_log.proofs.Sample.{sample, station, windless, beans, lidw, missing, no_mean, one_mean, two_means}
 use Rattle.promises.proofs.DayThere.{day_there}
 
 -- day 180 of 2008: 90, 55, 72 and 50 °F, 700 cal/cm²/d, 100 miles

@@ -30,13 +30,13 @@ use Rattle.promises.specs.CropFigures.{CropDay, CropFigureAt, CropFiguresOwed}
 use Rattle.promises.proofs.CropFigures.{EveryCropFigure, crop_figures_met}
 use Rattle.promises.specs.Days.{DayAt}
 use Rattle.promises.specs.Demand.{AnsweredLog, FigureAt, FiguresOwed}
-use Rattle.log.specs.History.{days_before, good_date, counted, earlier_means, verdict_of}
-use Rattle.log.specs.Log.{planted, crop_answers, answers_to, read_from, reading_of, outcome_of, leaves, buffer_after}
-use Rattle.log.specs.Parts.{entries_of}
-use Rattle.log.specs.declared.Outcome.TheVariants as outcome
+use Rattle.station_log.specs.History.{days_before, good_date, counted, earlier_means, verdict_of}
+use Rattle.station_log.specs.Log.{planted, crop_answers, answers_to, read_from, reading_of, outcome_of, leaves, buffer_after}
+use Rattle.station_log.specs.Parts.{entries_of}
+use Rattle.station_log.specs.declared.Outcome.TheVariants as outcome
 use Rattle.promises.proofs.Demand.{log_within_bound}
 use Rattle.promises.proofs.WithoutSubstitute.{verdict_strictly, all_strictly, outcome_strictly, buffer_strictly}
-use Rattle.log.proofs.Sample.{sample, station, windless, beans, lidw, missing, no_mean, one_mean, two_means}
+use Rattle.station_log.proofs.Sample.{sample, station, windless, beans, lidw, missing, no_mean, one_mean, two_means}
 use Rattle.promises.proofs.DayThere.{day_there}
 
 -- day 179 of 2008, 71 °F, neither a dew point nor the wind; day 180: 90, 55 and 72 °F, no dew point, 700 cal/cm²/d, 100 miles

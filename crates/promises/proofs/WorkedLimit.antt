@@ -21,14 +21,14 @@ use Rattle.answers.specs.declared.Answer.TheVariants as answer
 use Rattle.records.specs.Bytes.{word_at, signed_of, signed_at}
 use Rattle.records.specs.Record.{station_at, limited_station_at, day_at, record_at}
 use Rattle.promises.specs.Demand.{AnsweredLog, AnsweredDay, FigureAt, FiguresOwed}
-use Rattle.log.specs.History.{days_before, good_date, counted, earlier_means, verdict_of}
+use Rattle.station_log.specs.History.{days_before, good_date, counted, earlier_means, verdict_of}
 use Rattle.promises.proofs.LimitedStations.{StationThere}
-use Rattle.log.specs.Log.{bare, answers_to, read_from, reading_of, outcome_of, leaves, buffer_after}
-use Rattle.log.specs.Parts.{entries_of}
+use Rattle.station_log.specs.Log.{bare, answers_to, read_from, reading_of, outcome_of, leaves, buffer_after}
+use Rattle.station_log.specs.Parts.{entries_of}
 use Rattle.promises.proofs.WithoutKind.{found_without, read_without, reading_without, Without}
-use Rattle.log.specs.declared.Outcome.TheVariants as outcome
+use Rattle.station_log.specs.declared.Outcome.TheVariants as outcome
 use Rattle.promises.proofs.Demand.{log_within_bound}
-use Rattle.log.proofs.Sample.{sample, fields, station, windless, lidw, missing, no_mean, one_mean, two_means}
+use Rattle.station_log.proofs.Sample.{sample, fields, station, windless, lidw, missing, no_mean, one_mean, two_means}
 use Rattle.promises.proofs.DayThere.{day_there}
 
 -- LIDW as kind 8 with the limit 1,000

@@ -17,11 +17,11 @@ use Rattle.answers.specs.Answers.{day_answer, answer_bytes, bytes_of}
 use Rattle.records.specs.Bytes.{word_at, signed_of, signed_at}
 use Rattle.promises.specs.Days.{DayAt}
 use Rattle.promises.specs.Demand.{AnsweredDay}
-use Rattle.log.specs.History.{days_before, good_date, counted, earlier_means, verdict_of}
-use Rattle.log.specs.Log.{bare, answers_to, read_from, reading_of, outcome_of, buffer_after}
+use Rattle.station_log.specs.History.{days_before, good_date, counted, earlier_means, verdict_of}
+use Rattle.station_log.specs.Log.{bare, answers_to, read_from, reading_of, outcome_of, buffer_after}
 use Rattle.answers.specs.declared.Answer.TheVariants as answer
 use Rattle.records.specs.Record.{station_at, day_at, record_at}
-use Rattle.log.proofs.Sample.{sample, fields, station, plain_day}
+use Rattle.station_log.proofs.Sample.{sample, fields, station, plain_day}
 use Rattle.promises.proofs.DayThere.{day_there}
 
 -- day 12, the third: two earlier means, of days that are refused
@@ -101,7 +101,7 @@ lacking_too = (refl, refl)
 abbrev room : List ℕ
 room = lent ++ lent
 
--- the day 11 that comes again is refused with 6; that its mean counts for nothing is in log/proofs/WorkedRules.antt, since day 12 has 0 either way
+-- the day 11 that comes again is refused with 6; that its mean counts for nothing is in station_log/proofs/WorkedRules.antt, since day 12 has 0 either way
 pub two_blocks_lem : buffer_after two_blocks room ≡
     5 ∷ 76 ∷ 73 ∷ 68 ∷ 88
     ∷ 4 ∷ 7 ∷ 215 ∷ 1 ∷ 109 ∷ 0 ∷ 0 ∷ 0 ∷ 7

@@ -10,7 +10,7 @@ use Rattle.day.specs.declared.Earlier.{Earlier}
 use Rattle.day.specs.declared.Station.{Station}
 use Rattle.answers.specs.Answers.{kind_of, four, dated, lettered}
 use Rattle.promises.specs.Demand.{AnsweredLog, AnsweredDay}
-use Rattle.log.specs.Log.{planted}
+use Rattle.station_log.specs.Log.{planted}
 
 -- "For an answered day of that year from S to F": record i of the log is the answered day x, the crop c holds in its block, and the date is in c's season
 pub record CropDay (s : List ℕ) (i : ℕ) (st : Station) (x : Day) (earlier : Earlier) (place : ℕ) (c : Crop) : Type 0 where

@@ -4,8 +4,8 @@ use Rattle.day.specs.declared.Day.{Day}
 use Rattle.day.specs.declared.Earlier.{Earlier}
 use Rattle.day.specs.declared.Station.{Station}
 use Rattle.answers.specs.Answers.{bytes_of}
-use Rattle.log.specs.History.{good_date, earlier_means}
-use Rattle.log.specs.Log.{BlockRead, Entry, day, accepted, reading_of, answers_of}
+use Rattle.station_log.specs.History.{good_date, earlier_means}
+use Rattle.station_log.specs.Log.{BlockRead, Entry, day, accepted, reading_of, answers_of}
 
 -- Record number i of the log s, counted from 0, is the day x of a block of `station`. `earlier` are the means that the block's records before it
 -- give, `good` says whether its date is good, and its answer stands at `place`: after the answers of the records before it.

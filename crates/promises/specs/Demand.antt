@@ -11,9 +11,9 @@ use Rattle.day.specs.declared.Station.{Station}
 use Rattle.day.specs.declared.Verdict.{Verdict}
 use Rattle.answers.specs.Answers.{kind_of, dated}
 use Rattle.promises.specs.Days.{DayAt}
-use Rattle.log.specs.Log.{outcome_of}
-use Rattle.log.specs.declared.Outcome.{Outcome}
-use Rattle.log.specs.declared.Outcome.TheVariants.{Written}
+use Rattle.station_log.specs.Log.{outcome_of}
+use Rattle.station_log.specs.declared.Outcome.{Outcome}
+use Rattle.station_log.specs.declared.Outcome.TheVariants.{Written}
 
 -- "none of 1 to 5 and 12 and no log refusal that a request adds holds of the log and its answer buffer", by the rules and not by what a reader
 -- returns

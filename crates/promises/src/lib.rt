@@ -1,11 +1,11 @@
 // A station log read to its end or refused, with what is promised of its figures.
 #![tactic(auto)]
 
-ghost use Rattle.log.specs.Log.{Read};
+ghost use Rattle.station_log.specs.Log.{Read};
 ghost use Rattle.promises.specs.CropFigures.{CropFiguresOwed};
 ghost use Rattle.promises.specs.Demand.{NotRefused, FiguresOwed};
 
-use log::Outcome;
+use station_log::Outcome;
 
 // Reads a log: its answers in the lent buffer.
 pub fn read_log(log: &[u8], answers: &mut [u8]) -> Outcome

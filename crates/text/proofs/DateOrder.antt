@@ -9,9 +9,9 @@ use Rattle.answers.specs.Answers.{Role, opens, of_day, beside, role_of}
 use Rattle.answers.specs.declared.Answer.{Answer}
 use Rattle.day.specs.Calendar.{is_date}
 use Rattle.day.specs.declared.Verdict.TheVariants.{Figure, Refused, Estimated}
-use Rattle.log.proofs.DateOrder.{Next, FirstInOrder, InDateOrder, in_date_order, by_number}
-use Rattle.log.specs.History.{day_number}
-use Rattle.log.specs.Log.{answers_to}
+use Rattle.station_log.proofs.DateOrder.{Next, FirstInOrder, InDateOrder, in_date_order, by_number}
+use Rattle.station_log.specs.History.{day_number}
+use Rattle.station_log.specs.Log.{answers_to}
 use Rattle.day.proofs.Dates.{date_tells}
 use Rattle.totals.specs.Months.{month_of, year_at, month_at, months}
 use Rattle.totals.specs.Tally.{month_number, Comes, InMonthOrder}

@@ -9,11 +9,11 @@ use lib.ListN.{length, drop}
 use borrow.Author.Tests.{ltb-false}
 use Rattle.answers.specs.Answers.{bytes_of}
 use Rattle.lines.specs.Text.{header}
-use Rattle.log.specs.Log.{longest, answers_to, reading_of, settled, outcome_of, leaves, buffer_after, Read}
-use Rattle.log.specs.Parts.{longest_answers}
-use Rattle.log.specs.declared.Outcome.{Outcome}
-use Rattle.log.specs.declared.Outcome.TheVariants.{Written, Refused}
-use Rattle.log.proofs.OutcomeSize.{Small, outcome_small, written_size}
+use Rattle.station_log.specs.Log.{longest, answers_to, reading_of, settled, outcome_of, leaves, buffer_after, Read}
+use Rattle.station_log.specs.Parts.{longest_answers}
+use Rattle.station_log.specs.declared.Outcome.{Outcome}
+use Rattle.station_log.specs.declared.Outcome.TheVariants.{Written, Refused}
+use Rattle.station_log.proofs.OutcomeSize.{Small, outcome_small, written_size}
 use Rattle.records.proofs.Choice.{by_cond}
 use Rattle.promises.specs.Demand.{AnsweredLog}
 use Rattle.text.specs.Report.{lines_of, text_of, report_of, Prints, ReportOwed}

@@ -14,12 +14,12 @@ use Rattle.day.specs.declared.Code.{Code}
 use Rattle.records.proofs.Choice.{by_cond}
 use Rattle.answers.specs.Answers.{bytes_of}
 use Rattle.answers.proofs.Roles.{count}
-use Rattle.log.specs.Log.{longest, answers_to, reading_of, outcome_of, settled}
-use Rattle.log.specs.Parts.{longest_answers}
-use Rattle.log.specs.declared.Outcome.{Outcome}
-use Rattle.log.specs.declared.Outcome.TheVariants as outcome
-use Rattle.log.proofs.Longest.{answers_most, lines_room}
-use Rattle.log.proofs.OutcomeSize.{Small, outcome_small, outcome_alike}
+use Rattle.station_log.specs.Log.{longest, answers_to, reading_of, outcome_of, settled}
+use Rattle.station_log.specs.Parts.{longest_answers}
+use Rattle.station_log.specs.declared.Outcome.{Outcome}
+use Rattle.station_log.specs.declared.Outcome.TheVariants as outcome
+use Rattle.station_log.proofs.Longest.{answers_most, lines_room}
+use Rattle.station_log.proofs.OutcomeSize.{Small, outcome_small, outcome_alike}
 use Rattle.totals.specs.Totals.{total_of}
 use Rattle.text.proofs.TotalsOwed.{BlockOf}
 use Rattle.text.specs.Report.{own, lines_of, text_of, report_of, whole_report}

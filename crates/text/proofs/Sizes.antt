@@ -18,7 +18,7 @@ use Rattle.day.specs.declared.Code.{Code}
 use Rattle.day.specs.declared.Verdict.TheVariants.{Figure, Refused, Estimated}
 use Rattle.day.proofs.FigureLimit.{most_figure}
 use Rattle.lines.proofs.Lengths.{month_line_of_log, month_line_of_day, season_line_of_log}
-use Rattle.log.proofs.Longest.{most_days}
+use Rattle.station_log.proofs.Longest.{most_days}
 use Rattle.records.proofs.Choice.{by_cond}
 use Rattle.totals.specs.Months.{month_of, year_at, month_at, months}
 use Rattle.totals.specs.Tally.{InMonthOrder}

@@ -26,14 +26,14 @@ use Rattle.day.proofs.Passed.{day_high}
 use Rattle.records.specs.Bytes.{word_at}
 use Rattle.records.specs.Record.{day_at}
 use Rattle.records.proofs.Choice.{by_cond}
-use Rattle.log.specs.History.{good_date, earlier_means, verdict_of}
-use Rattle.log.specs.Log.{unopened, Entry, day, past_all, crop_answers, answers_for, answers_of, answers_at_end, answers_in, answers_to, Reading, refused, accepted, reading_of}
-use Rattle.log.specs.Parts.{entries_of}
-use Rattle.log.proofs.Laws.{Kept, moderate, entry_cases, end_beside, end_moderate}
-use Rattle.log.proofs.Means.{good_date_lem}
-use Rattle.log.proofs.Planted.{one_most}
-use Rattle.log.proofs.SoundRecords.{SoundEntry, SoundEntries, sound_reading}
-use Rattle.log.proofs.SoundStation.{Sound, station_constants}
+use Rattle.station_log.specs.History.{good_date, earlier_means, verdict_of}
+use Rattle.station_log.specs.Log.{unopened, Entry, day, past_all, crop_answers, answers_for, answers_of, answers_at_end, answers_in, answers_to, Reading, refused, accepted, reading_of}
+use Rattle.station_log.specs.Parts.{entries_of}
+use Rattle.station_log.proofs.Laws.{Kept, moderate, entry_cases, end_beside, end_moderate}
+use Rattle.station_log.proofs.Means.{good_date_lem}
+use Rattle.station_log.proofs.Planted.{one_most}
+use Rattle.station_log.proofs.SoundRecords.{SoundEntry, SoundEntries, sound_reading}
+use Rattle.station_log.proofs.SoundStation.{Sound, station_constants}
 use Rattle.text.proofs.Laws.{Owed, owed}
 use Rattle.text.proofs.Sizes.{AllSmall}
 use Rattle.lines.specs.Text.{verdict_text, day_line}

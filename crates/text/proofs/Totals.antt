@@ -11,8 +11,8 @@ use Rattle.day.specs.Calendar.{is_date}
 use Rattle.day.specs.declared.Code.{Code}
 use Rattle.day.specs.declared.Verdict.{Verdict}
 use Rattle.day.specs.declared.Verdict.TheVariants.{Figure, Estimated}
-use Rattle.log.proofs.DateOrder.{InDateOrder, in_date_order}
-use Rattle.log.specs.Log.{answers_to}
+use Rattle.station_log.proofs.DateOrder.{InDateOrder, in_date_order}
+use Rattle.station_log.specs.Log.{answers_to}
 use Rattle.totals.specs.Months.{month_of}
 use Rattle.totals.specs.Tally.{month_number, InMonthOrder}
 use Rattle.totals.specs.Totals.{none, one, counted_of, share_of, is_month}

@@ -8,7 +8,7 @@ use Rattle.answers.specs.declared.Answer.TheVariants as answer
 use Rattle.day.specs.declared.Code.{Code}
 use Rattle.day.specs.declared.Verdict.{Verdict}
 use Rattle.day.specs.declared.Verdict.TheVariants.{Figure, Estimated}
-use Rattle.log.specs.Log.{answers_to}
+use Rattle.station_log.specs.Log.{answers_to}
 use Rattle.totals.specs.Months.{year_at, month_at, months}
 use Rattle.totals.proofs.Calendar.{InMonth}
 use Rattle.totals.specs.Totals.{none, one, counted_of, share_of, is_month, month_total, season_total}

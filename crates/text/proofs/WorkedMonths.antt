@@ -22,10 +22,10 @@ use Rattle.answers.specs.declared.Answer.{Answer}
 use Rattle.answers.specs.declared.Answer.TheVariants as answer
 use Rattle.records.specs.Bytes.{word_at, signed_of, signed_at}
 use Rattle.records.specs.Record.{station_at, day_at, record_at}
-use Rattle.log.specs.History.{days_before, good_date, counted, earlier_means, verdict_of}
-use Rattle.log.specs.Log.{answers_to, read_from, reading_of, outcome_of}
-use Rattle.log.proofs.Sample as sample
-use Rattle.log.proofs.Sample.{windless, no_mean, one_mean}
+use Rattle.station_log.specs.History.{days_before, good_date, counted, earlier_means, verdict_of}
+use Rattle.station_log.specs.Log.{answers_to, read_from, reading_of, outcome_of}
+use Rattle.station_log.proofs.Sample as sample
+use Rattle.station_log.proofs.Sample.{windless, no_mean, one_mean}
 use Rattle.lines.specs.Text.{totals, month_line, season_line, leading, digits, padded, inches, verdict_text, header, day_line}
 use Rattle.totals.specs.Months.{days_by, month_of}
 use Rattle.text.specs.Report.{report_of, whole_report}

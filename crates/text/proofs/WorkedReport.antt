@@ -17,12 +17,12 @@ use Rattle.day.specs.Calendar.{year_length, is_date}
 use Rattle.day.specs.Judgement.{holds, standing_of, lacks_dew_point, as_judged, judged}
 use Rattle.day.specs.declared.Refusal.TheVariants.{Missing}
 use Rattle.day.specs.declared.Verdict.TheVariants.{Refused}
-use Rattle.log.specs.History.{days_before, good_date, counted, earlier_means, verdict_of}
+use Rattle.station_log.specs.History.{days_before, good_date, counted, earlier_means, verdict_of}
 use Rattle.tables.specs.Values.{first}
 use Rattle.totals.specs.Months.{days_by, month_of}
-use Rattle.log.specs.Log.{answers_to, read_from, reading_of, outcome_of}
-use Rattle.log.proofs.Sample.{sample, fields, station, windless}
-use Rattle.log.specs.declared.Outcome.TheVariants as outcome
+use Rattle.station_log.specs.Log.{answers_to, read_from, reading_of, outcome_of}
+use Rattle.station_log.proofs.Sample.{sample, fields, station, windless}
+use Rattle.station_log.specs.declared.Outcome.TheVariants as outcome
 use Rattle.promises.proofs.WorkedLog.{worked}
 use Rattle.promises.proofs.WorkedCrop.{crop_log, worked as crop-worked}
 use Rattle.promises.proofs.WorkedEstimate.{estimate_log, worked as estimate-worked}

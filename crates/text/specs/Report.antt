@@ -3,11 +3,11 @@
 use Rattle.std.specs.Prelude.{cond, List, [], ◌∷◌, ◌++◌, ◌≡◌, ℕ, ltb, eqb, length, drop}
 use Rattle.answers.specs.Answers.{Role, opens, of_day, beside, role_of, bytes_of}
 use Rattle.day.specs.declared.Code.{Code}
-use Rattle.log.specs.Log.{outcome_of, answers_to}
+use Rattle.station_log.specs.Log.{outcome_of, answers_to}
 use Rattle.answers.specs.declared.Answer.{Answer}
 use Rattle.answers.specs.declared.Answer.TheVariants as answer
-use Rattle.log.specs.declared.Outcome.{Outcome}
-use Rattle.log.specs.declared.Outcome.TheVariants as outcome
+use Rattle.station_log.specs.declared.Outcome.{Outcome}
+use Rattle.station_log.specs.declared.Outcome.TheVariants as outcome
 use Rattle.lines.specs.Text.{header, day_line, crop_line, month_line, season_line, refused_line}
 use Rattle.promises.specs.Demand.{AnsweredLog}
 use Rattle.totals.specs.Months.{months}
@@ -56,7 +56,7 @@ block_lines (opens code) rest = answer_lines code (own rest) ++ about_block code
 block_lines (of_day year d verdict) rest = []
 block_lines beside rest = []
 
--- block after block. No log answers a day before a station: it is refused with 4 (`station_first` in log/proofs/Longest.antt).
+-- block after block. No log answers a day before a station: it is refused with 4 (`station_first` in station_log/proofs/Longest.antt).
 abbrev pub lines_of : List Answer → List ℕ
 lines_of [] = []
 lines_of (a ∷ rest) = block_lines (role_of a) rest ++ lines_of rest

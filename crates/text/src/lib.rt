@@ -4,8 +4,8 @@
 ghost use Rattle.std.specs.Prelude.{List, ◌++◌, ◌≡◌, ◌≤◌, length};
 ghost use Rattle.promises.specs.CropFigures.{CropFiguresOwed};
 ghost use Rattle.promises.specs.Demand.{FiguresOwed};
-ghost use Rattle.log.specs.Log.{buffer_after};
-ghost use Rattle.log.specs.Parts.{longest_answers};
+ghost use Rattle.station_log.specs.Log.{buffer_after};
+ghost use Rattle.station_log.specs.Parts.{longest_answers};
 ghost use Rattle.answers.specs.declared.Answer.{Answer as Answered};
 ghost use Rattle.text.specs.Report.{lines_of, report_of, whole_report, Prints, ReportOwed};
 ghost use Rattle.lines.specs.Text.{header as Text·header};
@@ -13,7 +13,7 @@ ghost use Rattle.lines.specs.Text.{refused_line};
 ghost use Rattle.text.specs.Walk.{longest_report, Holds, Ordered};
 ghost use Rattle.lines.specs.Written.{AtFront};
 
-use log::Outcome;
+use station_log::Outcome;
 use promises::read_log;
 
 mod season;

@@ -1,7 +1,7 @@
 // The lines about a whole block, behind those of its answers: the totals of its months in date order, and of its season.
 ghost use Rattle.std.specs.Prelude.{List, ◌≤◌};
 ghost use Rattle.answers.specs.declared.Answer.{Answer as Answered};
-ghost use Rattle.log.specs.Parts.{longest_answers};
+ghost use Rattle.station_log.specs.Parts.{longest_answers};
 ghost use Rattle.text.specs.Report.{month_text, season_text, about_block};
 ghost use Rattle.text.specs.Walk.{Holds, Room, Laid};
 ghost use Rattle.totals.specs.Tally.{ended, InMonthOrder};

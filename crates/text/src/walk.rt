@@ -1,6 +1,6 @@
 // The walk over a log's answers, which lays their lines over a text or only counts them.
 ghost use Rattle.std.specs.Prelude.{List, ◌≡◌, ◌≤◌};
-ghost use Rattle.log.specs.Parts.{longest_answers};
+ghost use Rattle.station_log.specs.Parts.{longest_answers};
 ghost use Rattle.answers.specs.Answers.{role_of};
 ghost use Rattle.answers.specs.declared.Answer.{Answer as Answered};
 ghost use Rattle.text.specs.Report.{lines_of};

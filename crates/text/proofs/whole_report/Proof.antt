@@ -5,7 +5,7 @@ use Prim.Native.Nat.{ℕ, ◌≤◌}
 use native.Mathlib.Omega.{arith}
 use lib.ListN.{length}
 use borrow.Author.Rules.{rules}
-use Rattle.log.specs.Parts.{longest_answers}
+use Rattle.station_log.specs.Parts.{longest_answers}
 use Rattle.text.specs.Report.{report_of, Prints, whole_report}
 use Rattle.text.proofs.LongEnough.{LongEnough, long_enough, whole}
 use Rattle.text.proofs.SmallAnswers.{AreBytes}

@@ -2,8 +2,8 @@
 use mathlib.Core.Path.{◌≡◌, subst}
 use native.Mathlib.Omega.{arith}
 use borrow.Author.Rules.{rules}
-use Rattle.log.specs.Log.{answers_to, Read}
-use Rattle.log.specs.declared.Outcome.{Outcome}
+use Rattle.station_log.specs.Log.{answers_to, Read}
+use Rattle.station_log.specs.declared.Outcome.{Outcome}
 use Rattle.text.proofs.SmallAnswers.{AreBytes}
 use Rattle.text.proofs.DateOrder.{answers_ordered}
 use Rattle.text.proofs.FromLog.{answers_few, lines_short, answers_held, report_text, with_report}

@@ -9,7 +9,7 @@ use borrow.Author.Rules.{rules}
 use Rattle.answers.specs.Answers.{answer_bytes}
 use Rattle.answers.specs.declared.Answer.{Answer}
 use Rattle.answers.proofs.Roles.{some_bytes}
-use Rattle.log.specs.Parts.{longest_answers}
+use Rattle.station_log.specs.Parts.{longest_answers}
 use Rattle.totals.specs.Tally.{begun, after, ended, Within}
 use Rattle.totals.specs.declared.tally.Counted.{Counted}
 use Rattle.totals.specs.declared.tally.Tally.{Tally}
