@@ -3,8 +3,8 @@ use mathlib.Core.Path.{◌≡◌, refl, sym, ◌∙◌, subst}
 use mathlib.Core.Bool.{Bool, true, false, not, cond}
 use lib.Dec.{T}
 use lib.IntN.{pos}
-use Rattle.numbers.specs.Solver.{◌:+◌, ◌:-◌, ◌:*◌, :-◌, ◌:=◌}
-use Rattle.numbers.specs.Ratios.{Ratio, ◌over◌, -ᴿ◌}
+use Rattle.ratios.specs.Solver.{◌:+◌, ◌:-◌, ◌:*◌, :-◌, ◌:=◌}
+use Rattle.ratios.specs.Ratios.{Ratio, ◌over◌, -ᴿ◌}
 use Rattle.numbers.proofs.RatioTests.{leᴿ}
 use Rattle.numbers.specs.Fractions.{ℚ, fraction, from_ℤ, ◌+ℚ◌, ◌*ℚ◌, -ℚ◌, ◌-ℚ◌, inverse, ◌÷ℚ◌, nonneg, ◌≤ℚ◌, ◌<ℚ◌, abs_ℚ}
 use Rattle.numbers.proofs.FractionSolver.{ring_ℚ, ◌#◌, fraction_negation}

@@ -6,9 +6,9 @@ use mathlib.Core.Quot.{sound}
 use lib.Dec.{T}
 use lib.IntN.{ℤ, neg_ℤ, ◌+ℤ◌, ◌-ℤ◌, ◌*ℤ◌}
 use lib.Signed.{non_neg, ◌≤ℤ◌}
-use Rattle.numbers.specs.Solver.{◌:+◌, ◌:-◌, ◌:*◌, :-◌, ◌:=◌}
-use Rattle.numbers.specs.IntegerSolver.{ring_ℤ}
-use Rattle.numbers.specs.Ratios.{Ratio, denominator}
+use Rattle.ratios.specs.Solver.{◌:+◌, ◌:-◌, ◌:*◌, :-◌, ◌:=◌}
+use Rattle.ratios.specs.IntegerSolver.{ring_ℤ}
+use Rattle.ratios.specs.Ratios.{Ratio, denominator}
 use Rattle.numbers.specs.Fractions.{ℚ, fraction, ◌≤ℚ◌}
 use Rattle.numbers.proofs.IntegerOrder.{≤ℤ_antisym, gap_test, test_gap}
 use Rattle.numbers.proofs.Order.{computed, ≤ℚ_eq}

@@ -3,8 +3,8 @@ use mathlib.Core.Path.{◌≡◌, refl, sym, ◌∙◌, ap, ap₂, subst}
 use Prim.Native.Nat.{ℕ, zero, suc, ◌^◌, ◌≤◌, ◌<◌, ◌*◌}
 use native.Mathlib.Nat.{pow-zero, pow-suc}
 use native.Mathlib.Omega.{arith}
-use Rattle.numbers.specs.Solver.{◌:+◌, ◌:-◌, ◌:*◌, ◌:=◌}
-use Rattle.numbers.specs.Ratios.{◌over◌}
+use Rattle.ratios.specs.Solver.{◌:+◌, ◌:-◌, ◌:*◌, ◌:=◌}
+use Rattle.ratios.specs.Ratios.{◌over◌}
 use Rattle.numbers.specs.Fractions.{ℚ, ◌*ℚ◌, ◌-ℚ◌, ◌^ℚ◌, ◌≤ℚ◌, ◌<ℚ◌}
 use Rattle.numbers.proofs.FractionSolver.{ring_ℚ, ◌#◌}
 use Rattle.numbers.proofs.Order.{NonNeg, nonneg_mul, nonneg_ratio, nonneg_eq, of_nonneg, gap, from_gap, ≤ℚ_refl, *ℚ_at_least}

@@ -6,7 +6,7 @@ use Prim.Native.Nat.{ℕ, zero, suc, ◌+◌}
 use native.Mathlib.Omega.{arith}
 use lib.Dec.{T}
 use lib.IntN.{pos}
-use Rattle.numbers.specs.Solver.{◌:+◌, ◌:-◌, ◌:*◌, ◌:^◌, ◌:=◌}
+use Rattle.ratios.specs.Solver.{◌:+◌, ◌:-◌, ◌:*◌, ◌:^◌, ◌:=◌}
 use Rattle.numbers.specs.Fractions.{ℚ, from_ℤ, ◌+ℚ◌, ◌*ℚ◌, ◌-ℚ◌, ◌^ℚ◌, nonneg, ◌≤ℚ◌}
 use Rattle.numbers.specs.Rounding.{RootOf}
 use Rattle.numbers.proofs.FractionSolver.{ring_ℚ, ◌#◌}

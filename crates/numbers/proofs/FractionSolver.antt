@@ -5,12 +5,12 @@ use mathlib.Core.Quot.{mk, sound, Quot-set, ind}
 use Prim.Native.Nat.{ℕ}
 use lib.Dec.{T}
 use lib.IntN.{ℤ, pos, ◌*ℤ◌}
-use Rattle.numbers.specs.Rings.{CommutativeRing, from_multiple}
-use Rattle.numbers.specs.Polynomials.{Coefficients, Value}
-use Rattle.numbers.specs.Solver.{Expression, Of, ForAll, numbered, holds, more, ring, con, ◌:+◌, ◌:-◌, ◌:*◌, :-◌, ◌:=◌}
-use Rattle.numbers.specs.IntegerSolver.{ring_ℤ, is_zero, zero_is}
-use Rattle.numbers.specs.Ratios.{Ratio, denominator, product_minus_1, ◌over◌, ◌+ᴿ◌, ◌*ᴿ◌, -ᴿ◌}
-use Rattle.numbers.specs.Congruence.{product_suc}
+use Rattle.ratios.specs.Rings.{CommutativeRing, from_multiple}
+use Rattle.ratios.specs.Polynomials.{Coefficients, Value}
+use Rattle.ratios.specs.Solver.{Expression, Of, ForAll, numbered, holds, more, ring, con, ◌:+◌, ◌:-◌, ◌:*◌, :-◌, ◌:=◌}
+use Rattle.ratios.specs.IntegerSolver.{ring_ℤ, is_zero, zero_is}
+use Rattle.ratios.specs.Ratios.{Ratio, denominator, product_minus_1, ◌over◌, ◌+ᴿ◌, ◌*ᴿ◌, -ᴿ◌}
+use Rattle.ratios.proofs.Congruence.{product_suc}
 use Rattle.numbers.specs.Fractions.{ℚ, fraction, from_ℤ, ◌+ℚ◌, ◌*ℚ◌, -ℚ◌, ◌-ℚ◌}
 
 -- an equation of fractions holds if it holds of the fractions of ratios

@@ -9,9 +9,9 @@ use lib.Arith.{le→nltb}
 use lib.IntN.{ℤ, pos, negsuc, neg_ℤ, ◌+ℤ◌, ◌-ℤ◌, ◌*ℤ◌, sub_ℕ}
 use lib.Signed.{non_neg, lt_z, le_z, ◌≤ℤ◌}
 use borrow.Author.Tests.{ltb-true, ltb-false, lt-leb, le-leb}
-use Rattle.numbers.specs.Solver.{con, ◌:-◌, ◌:*◌, :-◌, ◌:=◌}
-use Rattle.numbers.specs.IntegerSolver.{ring_ℤ}
-use Rattle.numbers.specs.Congruence.{non_neg_mul}
+use Rattle.ratios.specs.Solver.{con, ◌:-◌, ◌:*◌, :-◌, ◌:=◌}
+use Rattle.ratios.specs.IntegerSolver.{ring_ℤ}
+use Rattle.ratios.proofs.Congruence.{non_neg_mul}
 
 -- ---- the test that a whole number is not below 0
 

@@ -9,9 +9,9 @@ use native.Mathlib.Omega.{arith}
 use lib.Dec.{T, T_prop}
 use lib.IntN.{ℤ, pos, negsuc, neg_ℤ}
 use lib.Signed.{non_neg}
-use Rattle.numbers.specs.Solver.{◌:+◌, ◌:-◌, ◌:*◌, :-◌, ◌:=◌}
-use Rattle.numbers.specs.Ratios.{Ratio, ◌*ᴿ◌, reciprocal, inverseᴿ}
-use Rattle.numbers.specs.Congruence.{product_suc}
+use Rattle.ratios.specs.Solver.{◌:+◌, ◌:-◌, ◌:*◌, :-◌, ◌:=◌}
+use Rattle.ratios.specs.Ratios.{Ratio, ◌*ᴿ◌, reciprocal, inverseᴿ}
+use Rattle.ratios.proofs.Congruence.{product_suc}
 use Rattle.numbers.specs.Fractions.{ℚ, fraction, from_ℤ, ◌*ℚ◌, -ℚ◌, ◌-ℚ◌, inverse, ◌÷ℚ◌, nonneg, ◌≤ℚ◌, ◌<ℚ◌}
 use Rattle.numbers.proofs.FractionSolver.{ring_ℚ, from_multiple_ℚ, ◌#◌}
 use Rattle.numbers.proofs.Order.{NonNeg, nonneg_add, nonneg_mul, nonneg_of, gap, from_gap, <ℚ-≤ℚ, <ℚ-≤ℚ_trans}

@@ -8,10 +8,10 @@ use Prim.Native.Nat.{suc}
 use native.Mathlib.Nat.{zero-mul}
 use lib.Dec.{T, T_prop, T_not, not_T}
 use lib.IntN.{ℤ, pos, ◌*ℤ◌}
-use Rattle.numbers.specs.Solver.{◌:+◌, ◌:-◌, ◌:*◌, :-◌, ◌:=◌}
-use Rattle.numbers.specs.Ratios.{Ratio, denominator, nonnegᴿ, ◌+ᴿ◌, -ᴿ◌, ◌over◌}
+use Rattle.ratios.specs.Solver.{◌:+◌, ◌:-◌, ◌:*◌, :-◌, ◌:=◌}
+use Rattle.ratios.specs.Ratios.{Ratio, denominator, nonnegᴿ, ◌+ᴿ◌, -ᴿ◌, ◌over◌}
 use Rattle.numbers.proofs.RatioTests.{leᴿ, eqᴿ, posᴿ}
-use Rattle.numbers.specs.Congruence.{non_neg_mul}
+use Rattle.ratios.proofs.Congruence.{non_neg_mul}
 use Rattle.numbers.specs.Fractions.{ℚ, fraction, from_ℤ, ◌+ℚ◌, ◌*ℚ◌, -ℚ◌, ◌-ℚ◌, inverse, nonneg, ◌≤ℚ◌, ◌<ℚ◌}
 use Rattle.numbers.proofs.FractionSolver.{ring_ℚ, ◌#◌, fraction_sum, fraction_negation, fraction_zero}
 use Rattle.numbers.proofs.IntegerOrder.{non_neg_add, non_neg_negate, zero_of_both}

@@ -8,9 +8,9 @@ use lib.Dec.{ltb→lt, lt→ltb, le→leb, lit<}
 use lib.IntN.{ℤ, pos, negsuc, neg_ℤ, ◌+ℤ◌, ◌-ℤ◌, ◌*ℤ◌}
 use lib.Signed.{◌≤ℤ◌, ◌<ℤ◌}
 use Rattle.numbers.specs.Whole.{◌÷↓◌, ◌÷0◌, nearest_quotient}
-use Rattle.numbers.specs.Solver.{con, ◌:+◌, ◌:-◌, ◌:*◌, :-◌, ◌:=◌}
-use Rattle.numbers.specs.IntegerSolver.{ring_ℤ}
-use Rattle.numbers.specs.Ratios.{◌over◌, -ᴿ◌}
+use Rattle.ratios.specs.Solver.{con, ◌:+◌, ◌:-◌, ◌:*◌, :-◌, ◌:=◌}
+use Rattle.ratios.specs.IntegerSolver.{ring_ℤ}
+use Rattle.ratios.specs.Ratios.{◌over◌, -ᴿ◌}
 use Rattle.numbers.specs.Fractions.{ℚ, fraction, from_ℤ, ◌/ℚ◌, ◌+ℚ◌, ◌*ℚ◌, -ℚ◌, ◌-ℚ◌, inverse, ◌÷ℚ◌, ◌<ℚ◌, Near, ◌≤ℚ◌}
 use Rattle.numbers.proofs.RoundingErrors.{Rounds, down_error, toward_zero_error, nearest_error}
 use Rattle.numbers.proofs.IntegerOrder.{nonneg_add_ℤ, gap_ℤ, from_gap_ℤ}

@@ -1,7 +1,7 @@
 -- Tests of ratios that compute, by which fractions written as ratios are compared. Assumes nothing.
 use mathlib.Core.Bool.{Bool, not}
-use Rattle.numbers.specs.IntegerSolver.{is_zero}
-use Rattle.numbers.specs.Ratios.{Ratio, ◌over◌, ◌+ᴿ◌, -ᴿ◌, nonnegᴿ}
+use Rattle.ratios.specs.IntegerSolver.{is_zero}
+use Rattle.ratios.specs.Ratios.{Ratio, ◌over◌, ◌+ᴿ◌, -ᴿ◌, nonnegᴿ}
 
 -- at most, equal, above 0
 abbrev pub leᴿ : Ratio → Ratio → Bool

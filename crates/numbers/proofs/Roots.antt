@@ -1,6 +1,6 @@
 -- Square roots: a whole root of a number of units², against a root of the exact value. The lemma is `near_root`. Assumes nothing.
 use mathlib.Core.Path.{refl}
-use Rattle.numbers.specs.Solver.{◌:+◌, ◌:-◌, ◌:*◌, ◌:=◌}
+use Rattle.ratios.specs.Solver.{◌:+◌, ◌:-◌, ◌:*◌, ◌:=◌}
 use Rattle.numbers.specs.Fractions.{ℚ, ◌+ℚ◌, ◌*ℚ◌, ◌-ℚ◌, ◌≤ℚ◌, Near}
 use Rattle.numbers.proofs.FractionSolver.{ring_ℚ}
 use Rattle.numbers.proofs.Order.{NonNeg, nonneg_add, nonneg_mul, nonneg_eq, gap, from_gap, <ℚ-≤ℚ, <ℚ-≤ℚ_trans, <ℚ_irrefl, not_above}

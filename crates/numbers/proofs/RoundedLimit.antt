@@ -5,11 +5,11 @@ use lib.Dec.{T}
 use lib.IntN.{ℤ, pos}
 use lib.Signed.{lt_z, le_z}
 use Rattle.numbers.specs.Whole.{at_least_ℤ, at_most_ℤ}
-use Rattle.numbers.specs.Solver.{◌:-◌, ◌:*◌, :-◌, ◌:=◌}
-use Rattle.numbers.specs.Ratios.{Ratio}
+use Rattle.ratios.specs.Solver.{◌:-◌, ◌:*◌, :-◌, ◌:=◌}
+use Rattle.ratios.specs.Ratios.{Ratio}
 use Rattle.numbers.proofs.RatioTests.{posᴿ}
 use Rattle.numbers.specs.Fractions.{ℚ, fraction, from_ℤ, ◌*ℚ◌, -ℚ◌, ◌-ℚ◌, inverse, nonneg, ◌<ℚ◌, at_least_ℚ, at_most_ℚ}
-use Rattle.numbers.specs.Congruence.{bool_equal}
+use Rattle.ratios.proofs.Congruence.{bool_equal}
 use Rattle.numbers.proofs.FractionSolver.{ring_ℚ, from_multiple_ℚ, ◌#◌}
 use Rattle.numbers.proofs.Order.{nonneg_mul, nonneg_eq, nonneg_of, <ℚ_ratio, <ℚ-≤ℚ}
 use Rattle.numbers.proofs.WholeFractions.{from_ℤ_test}

@@ -5,8 +5,8 @@ use Prim.Native.Nat.{zero, suc, zero-le, suc-le-suc}
 use lib.Dec.{T, lt→ltb}
 use lib.IntN.{ℤ, pos, negsuc}
 use lib.Signed.{◌<ℤ◌}
-use Rattle.numbers.specs.Solver.{◌:+◌, ◌:-◌, ◌:*◌, :-◌, ◌:=◌}
-use Rattle.numbers.specs.Ratios.{Ratio, ◌+ᴿ◌, ◌*ᴿ◌, -ᴿ◌, inverseᴿ, nonnegᴿ}
+use Rattle.ratios.specs.Solver.{◌:+◌, ◌:-◌, ◌:*◌, :-◌, ◌:=◌}
+use Rattle.ratios.specs.Ratios.{Ratio, ◌+ᴿ◌, ◌*ᴿ◌, -ᴿ◌, inverseᴿ, nonnegᴿ}
 use Rattle.numbers.proofs.RatioTests.{eqᴿ, posᴿ}
 use Rattle.numbers.specs.Fractions.{ℚ, fraction, from_ℤ, ◌+ℚ◌, ◌*ℚ◌, -ℚ◌, ◌-ℚ◌, inverse, ◌÷ℚ◌, ◌≤ℚ◌, ◌<ℚ◌, Near}
 use Rattle.numbers.proofs.RoundingErrors.{Rounds}

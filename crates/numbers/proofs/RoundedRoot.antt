@@ -5,8 +5,8 @@ use native.Mathlib.Nat.{le_of_lt}
 use lib.Dec.{T}
 use lib.IntN.{pos}
 use Rattle.numbers.specs.Root.{WholeRoot}
-use Rattle.numbers.specs.Solver.{◌:+◌, ◌:-◌, ◌:*◌, ◌:^◌, :-◌, ◌:=◌}
-use Rattle.numbers.specs.Ratios.{Ratio, ◌+ᴿ◌, ◌*ᴿ◌, nonnegᴿ}
+use Rattle.ratios.specs.Solver.{◌:+◌, ◌:-◌, ◌:*◌, ◌:^◌, :-◌, ◌:=◌}
+use Rattle.ratios.specs.Ratios.{Ratio, ◌+ᴿ◌, ◌*ᴿ◌, nonnegᴿ}
 use Rattle.numbers.proofs.RatioTests.{leᴿ, eqᴿ}
 use Rattle.numbers.specs.Fractions.{ℚ, fraction, from_ℤ, ◌+ℚ◌, ◌*ℚ◌, -ℚ◌, ◌-ℚ◌, ◌^ℚ◌, ◌≤ℚ◌}
 use Rattle.numbers.specs.Rounding.{RootOf}

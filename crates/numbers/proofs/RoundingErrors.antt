@@ -1,7 +1,7 @@
 -- How far a whole quotient lies from the exact one, for each of the sheet's three ways of rounding. Assumes nothing.
 use lib.IntN.{ℤ, pos}
 use lib.Signed.{◌<ℤ◌}
-use Rattle.numbers.specs.Ratios.{Ratio, ◌over◌}
+use Rattle.ratios.specs.Ratios.{Ratio, ◌over◌}
 use Rattle.numbers.specs.Fractions.{fraction, from_ℤ, ◌÷ℚ◌, Near}
 
 -- the whole quotient lies within e of the exact one, for every dividend and every divisor above 0

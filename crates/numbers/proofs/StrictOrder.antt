@@ -6,8 +6,8 @@ use native.Mathlib.Nat.{le_dest}
 use native.Mathlib.Omega.{arith}
 use lib.Dec.{T, T_not, not_T}
 use lib.IntN.{pos}
-use Rattle.numbers.specs.Solver.{◌:+◌, ◌:-◌, ◌:*◌, :-◌, ◌:=◌}
-use Rattle.numbers.specs.Ratios.{Ratio, ◌over◌, ◌*ᴿ◌}
+use Rattle.ratios.specs.Solver.{◌:+◌, ◌:-◌, ◌:*◌, :-◌, ◌:=◌}
+use Rattle.ratios.specs.Ratios.{Ratio, ◌over◌, ◌*ᴿ◌}
 use Rattle.numbers.proofs.RatioTests.{eqᴿ}
 use Rattle.numbers.specs.Fractions.{ℚ, fraction, from_ℤ, ◌+ℚ◌, ◌*ℚ◌, -ℚ◌, ◌-ℚ◌, inverse, nonneg, ◌<ℚ◌}
 use Rattle.numbers.proofs.FractionSolver.{ring_ℚ, from_multiple_ℚ, ◌#◌, fraction_product}

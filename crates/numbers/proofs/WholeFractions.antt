@@ -5,9 +5,9 @@ use native.Mathlib.Nat.{le_dest}
 use lib.Dec.{T}
 use lib.IntN.{ℤ, pos, neg_ℤ, ◌+ℤ◌, ◌-ℤ◌, ◌*ℤ◌}
 use lib.Signed.{non_neg, le_z, ◌≤ℤ◌}
-use Rattle.numbers.specs.Solver.{con, ◌:+◌, ◌:-◌, ◌:*◌, :-◌, ◌:=◌}
-use Rattle.numbers.specs.IntegerSolver.{ring_ℤ}
-use Rattle.numbers.specs.Congruence.{bool_equal}
+use Rattle.ratios.specs.Solver.{con, ◌:+◌, ◌:-◌, ◌:*◌, :-◌, ◌:=◌}
+use Rattle.ratios.specs.IntegerSolver.{ring_ℤ}
+use Rattle.ratios.proofs.Congruence.{bool_equal}
 use Rattle.numbers.specs.Fractions.{ℚ, from_ℤ, ◌+ℚ◌, ◌*ℚ◌, -ℚ◌, ◌-ℚ◌, nonneg, ◌≤ℚ◌}
 use Rattle.numbers.proofs.FractionSolver.{ring_ℚ}
 use Rattle.numbers.proofs.IntegerOrder.{gap_test, test_gap}

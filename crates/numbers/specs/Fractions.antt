@@ -3,9 +3,9 @@
 use Rattle.std.specs.Prelude.{◌≡◌, Bool, not, cond, ℕ, T, ℤ, pos}
 use Rattle.std.proofs.Math.Bool.{Bool-set}
 use mathlib.Core.Quot.{Quot, mk, sound, Quot-set, lift, ind}
-use Rattle.numbers.specs.Solver.{power}
-use Rattle.numbers.specs.Ratios.{Ratio, ◌over◌, ◌+ᴿ◌, ◌*ᴿ◌, -ᴿ◌, inverseᴿ, Same, nonnegᴿ}
-use Rattle.numbers.specs.Congruence.{sum_right, sum_left, product_right, product_left, negation, nonneg_same, inverse_same}
+use Rattle.ratios.specs.Solver.{power}
+use Rattle.ratios.specs.Ratios.{Ratio, ◌over◌, ◌+ᴿ◌, ◌*ᴿ◌, -ᴿ◌, inverseᴿ, Same, nonnegᴿ}
+use Rattle.ratios.proofs.Congruence.{sum_right, sum_left, product_right, product_left, negation, nonneg_same, inverse_same}
 
 infix 5 ◌≤ℚ◌ ◌<ℚ◌
 infixl 6 ◌+ℚ◌ ◌-ℚ◌

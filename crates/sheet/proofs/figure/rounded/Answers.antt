@@ -1,0 +1,64 @@
+-- `sheet::figure::rounded` meets its contract: the branch's test is that of the definition. Assumes nothing.
+use mathlib.Core.Path.{◌≡◌, refl, ◌∙◌, subst}
+use mathlib.Core.Bool.{false}
+use mathlib.Core.List.{List, [], ◌∷◌}
+use native.Mathlib.Omega.{arith}
+use lib.IntN.{ℤ, pos}
+use lib.Signed.{le_z}
+use mir.Facts.{to_z-of_z}
+use Rattle.numbers.specs.Ranges.{from◌to◌}
+use Rattle.numbers.proofs.Reflection.{MachineExpression, arg, lit, ◌+ᵐ◌, ◌*ᵐ◌, ◌÷↓ᵐ◌, Given, none, ◌and◌, fits, equal_in, meaning, quotient_asks, quotient_gives}
+use Rattle.sheet.specs.Quantities as quantities
+use Rattle.sheet.specs.StepSheet.{Figure}
+use Rattle.sheet.proofs.Choices.{taken, left, positive_in}
+use Rattle.sheet.proofs.figure.rounded.Goals as goal
+
+abbrev whole : MachineExpression
+whole = lit 100 *ᵐ arg 1
+
+abbrev above : MachineExpression
+above = lit 2 *ᵐ (lit 23_622 *ᵐ arg 0) +ᵐ whole
+
+abbrev nearest : MachineExpression
+nearest = above ÷↓ᵐ (lit 2 *ᵐ whole)
+
+abbrev zs : goal.Start → List ℤ
+zs c = c.args.a ∷ c.args.heat ∷ []
+
+given : (c : goal.Else-a-le0) → Given ((from 1 to 8_000_000_000) ∷ quantities.latent_heat ∷ []) (zs c.before)
+given c =
+    let b = c.before in
+    positive_in b.requires.0 (subst (λ (z : ℤ). le_z z (pos 0) ≡ false) (to_z-of_z b.ranges.a) c.if-a-le0.false) and b.requires.1 and none
+
+pub returns-then-a-le0 : goal.returns-then-a-le0
+unfolding Figure
+returns-then-a-le0 c =
+    let b = c.before in
+    (taken le_z (to_z-of_z b.ranges.a) refl (pos 0) (meaning nearest (zs b)) c.if-a-le0.true, omega arith)
+
+pub returns : goal.returns
+unfolding Figure
+returns c =
+    let e = c.before in
+    let b = e.before in
+    let h = equal_in (given e) nearest quantities.figure tt in
+    rw (quotient_gives (given e) above (lit 2 *ᵐ whole) c.quotient.ensures tt)
+    (h.0 ∙ left le_z (to_z-of_z b.ranges.a) refl (pos 0) (meaning nearest (zs b)) e.if-a-le0.false, h.1)
+
+pub overflow_mul-whole : goal.overflow_mul-whole
+overflow_mul-whole c = fits (given c) whole tt
+
+pub overflow_mul-a : goal.overflow_mul-a
+overflow_mul-a c = fits (given c) (lit 23_622 *ᵐ arg 0) tt
+
+pub overflow_mul-a-2 : goal.overflow_mul-a-2
+overflow_mul-a-2 c = fits (given c) (lit 2 *ᵐ (lit 23_622 *ᵐ arg 0)) tt
+
+pub overflow_add-a : goal.overflow_add-a
+overflow_add-a c = fits (given c) above tt
+
+pub overflow_mul-whole-2 : goal.overflow_mul-whole-2
+overflow_mul-whole-2 c = fits (given c) (lit 2 *ᵐ whole) tt
+
+pub quotient-requires : goal.quotient-requires
+quotient-requires c = quotient_asks (given c) above (lit 2 *ᵐ whole) tt
