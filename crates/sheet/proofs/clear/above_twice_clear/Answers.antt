@@ -19,3 +19,9 @@ given c = c.requires.0 and c.requires.1 and none
 pub returns : goal.returns
 unfolding above_twice_clear
 returns c = ap₂ lt_z (equal (given c) twice tt) (equal (given c) reading tt)
+
+pub overflow_mul-result : goal.overflow_mul-result
+overflow_mul-result c = fits (given c) reading tt
+
+pub overflow_mul-result-2 : goal.overflow_mul-result-2
+overflow_mul-result-2 c = fits (given c) twice tt

@@ -43,7 +43,7 @@ module _ (c : goal.Start) where
   zs = c.args.c1 ∷ c.args.c2 ∷ c.args.c3 ∷ c.args.c4 ∷ c.args.c5 ∷ c.args.d ∷ []
 
   given : Given rs zs
-  given = c.requires.0.0 and c.requires.0.1 and c.requires.0.2 and c.requires.1.0 and c.requires.1.1 and c.requires.1.2 and none
+  given = c.requires.in_range.0 and c.requires.in_range.1 and c.requires.in_range.2 and c.requires.in_range_2.0 and c.requires.in_range_2.1 and c.requires.in_range_2.2 and none
 
   fit : (x : MachineExpression) → T (safe x rs) → SFits w64 (result x zs)
   fit = fits given
@@ -52,8 +52,20 @@ pub returns : goal.returns
 unfolding clear_sum
 returns c = equal_in (given c) (first +ᵐ second +ᵐ third +ᵐ fourth +ᵐ fifth) quantities.clear_sum tt
 
+pub overflow_mul-result : goal.overflow_mul-result
+overflow_mul-result c = fit c first tt
+
+pub overflow_mul-result-2 : goal.overflow_mul-result-2
+overflow_mul-result-2 c = fit c (lit 1_000_000 *ᵐ arg 1) tt
+
+pub overflow_mul-result-3 : goal.overflow_mul-result-3
+overflow_mul-result-3 c = fit c second tt
+
 pub overflow_add-result : goal.overflow_add-result
 overflow_add-result c = fit c (first +ᵐ second) tt
+
+pub overflow_mul-result-4 : goal.overflow_mul-result-4
+overflow_mul-result-4 c = fit c (lit 100_000 *ᵐ arg 2) tt
 
 pub overflow_mul-result-5 : goal.overflow_mul-result-5
 overflow_mul-result-5 c = fit c (lit 100_000 *ᵐ arg 2 *ᵐ d) tt
@@ -63,6 +75,9 @@ overflow_mul-result-6 c = fit c third tt
 
 pub overflow_add-result-2 : goal.overflow_add-result-2
 overflow_add-result-2 c = fit c (first +ᵐ second +ᵐ third) tt
+
+pub overflow_mul-result-7 : goal.overflow_mul-result-7
+overflow_mul-result-7 c = fit c (lit 1_000 *ᵐ arg 3) tt
 
 pub overflow_mul-result-8 : goal.overflow_mul-result-8
 overflow_mul-result-8 c = fit c (lit 1_000 *ᵐ arg 3 *ᵐ d) tt
@@ -75,6 +90,9 @@ overflow_mul-result-10 c = fit c fourth tt
 
 pub overflow_add-result-3 : goal.overflow_add-result-3
 overflow_add-result-3 c = fit c (first +ᵐ second +ᵐ third +ᵐ fourth) tt
+
+pub overflow_mul-result-11 : goal.overflow_mul-result-11
+overflow_mul-result-11 c = fit c (arg 4 *ᵐ d) tt
 
 pub overflow_mul-result-12 : goal.overflow_mul-result-12
 overflow_mul-result-12 c = fit c (arg 4 *ᵐ d *ᵐ d) tt

@@ -22,28 +22,22 @@ above = lit 2 *ᵐ (lit 23_622 *ᵐ arg 0) +ᵐ whole
 abbrev nearest : MachineExpression
 nearest = above ÷↓ᵐ (lit 2 *ᵐ whole)
 
-abbrev zs : goal.Start → List ℤ
-zs c = c.args.a ∷ c.args.heat ∷ []
-
-given : (c : goal.Else-a-le0) → Given ((from 1 to 8_000_000_000) ∷ quantities.latent_heat ∷ []) (zs c.before)
+given : (c : goal.Else-a-le0) → Given ((from 1 to 8_000_000_000) ∷ quantities.latent_heat ∷ []) (c.args.a ∷ c.args.heat ∷ [])
 given c =
-    let b = c.before in
-    positive_in b.requires.0 (subst (λ (z : ℤ). le_z z (pos 0) ≡ false) (to_z-of_z b.ranges.a) c.if-a-le0.false) and b.requires.1 and none
+    positive_in c.requires.0 (subst (λ (z : ℤ). le_z z (pos 0) ≡ false) (to_z-of_z c.ranges.a) c.if-a-le0.false) and c.requires.1 and none
 
 pub returns-then-a-le0 : goal.returns-then-a-le0
 unfolding Figure
 returns-then-a-le0 c =
-    let b = c.before in
-    (taken le_z (to_z-of_z b.ranges.a) refl (pos 0) (meaning nearest (zs b)) c.if-a-le0.true, omega arith)
+    (taken le_z (to_z-of_z c.ranges.a) refl (pos 0) (meaning nearest (c.args.a ∷ c.args.heat ∷ [])) c.if-a-le0.true, omega arith)
 
 pub returns : goal.returns
 unfolding Figure
 returns c =
     let e = c.before in
-    let b = e.before in
     let h = equal_in (given e) nearest quantities.figure tt in
     rw (quotient_gives (given e) above (lit 2 *ᵐ whole) c.quotient.ensures tt)
-    (h.0 ∙ left le_z (to_z-of_z b.ranges.a) refl (pos 0) (meaning nearest (zs b)) e.if-a-le0.false, h.1)
+    (h.0 ∙ left le_z (to_z-of_z c.ranges.a) refl (pos 0) (meaning nearest (c.args.a ∷ c.args.heat ∷ [])) e.if-a-le0.false, h.1)
 
 pub overflow_mul-whole : goal.overflow_mul-whole
 overflow_mul-whole c = fits (given c) whole tt

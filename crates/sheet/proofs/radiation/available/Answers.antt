@@ -11,3 +11,6 @@ given c = c.requires.0 and c.requires.1 and none
 pub returns : goal.returns
 unfolding H
 returns c = equal_in (given c) (arg 0 -ᵐ arg 1) quantities.heat tt
+
+pub overflow_sub-result : goal.overflow_sub-result
+overflow_sub-result c = fits (given c) (arg 0 -ᵐ arg 1) tt

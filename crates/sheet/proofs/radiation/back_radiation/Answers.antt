@@ -30,5 +30,14 @@ returns c =
     (called_of (given b.before) (sent_is b) (arg 0 *ᵐ arg 3 ÷0ᵐ lit 1_000_000_000) quantities.back_radiation c.toward_zero.ensures tt)
     tt
 
+pub overflow_mul-emittance : goal.overflow_mul-emittance
+overflow_mul-emittance c = fits (given c) (arg 0 *ᵐ arg 1) tt
+
+pub toward_zero-sent-requires : goal.toward_zero-sent-requires
+toward_zero-sent-requires c = search rules
+
 pub overflow_mul-sent : goal.overflow_mul-sent
 overflow_mul-sent c = fits ((sent_is c).1 and given c.before) (arg 0 *ᵐ arg 3) tt
+
+pub toward_zero-requires : goal.toward_zero-requires
+toward_zero-requires c = search rules

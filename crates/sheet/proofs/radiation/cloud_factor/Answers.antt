@@ -79,13 +79,13 @@ module _ (c : goal.After-ratio-rho) where
   bright_given : Given ((from 0 to 1) ∷ []) (zero_or_one bright ∷ [])
   bright_given = zero_or_one_in bright and none
 
-  ratio_is : (c.ratio-rho.result ≡ ρ c.before.args.s c.before.args.q) × InRange quantities.ratio-rho c.ratio-rho.result
+  ratio_is : (c.ratio-rho.result ≡ ρ c.before.args.s c.before.args.q) × InRange quantities.ratio c.ratio-rho.result
   ratio_is = (c.ratio-rho.ensures.0 ∙ ap₂ ρ (to_z-of_z c.before.ranges.s) (to_z-of_z c.before.ranges.q), c.ratio-rho.ensures.1)
 
   abbrev values : List ℤ
   values = c.ratio-rho.result ∷ zero_or_one bright ∷ []
 
-  given : Given (quantities.ratio-rho ∷ (from 0 to 1) ∷ []) values
+  given : Given (quantities.ratio ∷ (from 0 to 1) ∷ []) values
   given = c.ratio-rho.ensures.1 and bright_given
 
 quotient_is : (c : goal.After-quotient) → c.quotient.result ≡ result (share ÷↓ᵐ lit 1_000) (values c.before)
@@ -103,6 +103,24 @@ returns c =
           ∙ as_arithmetic s q,
       h.1,
     )
+
+pub ratio-rho-requires : goal.ratio-rho-requires
+ratio-rho-requires c = search rules
+
+pub overflow_mul-bright : goal.overflow_mul-bright
+overflow_mul-bright c = fits (choice_given c) reading tt
+
+pub overflow_mul-bright-2 : goal.overflow_mul-bright-2
+overflow_mul-bright-2 c = fits (choice_given c) border tt
+
+pub overflow_cast-bright : goal.overflow_cast-bright
+overflow_cast-bright c = tt
+
+pub overflow_mul-bright-3 : goal.overflow_mul-bright-3
+overflow_mul-bright-3 c = fits (given c) times_more tt
+
+pub overflow_add-bright : goal.overflow_add-bright
+overflow_add-bright c = fits (given c) times tt
 
 pub overflow_mul-bright-4 : goal.overflow_mul-bright-4
 overflow_mul-bright-4 c = fits (given c) share tt

@@ -17,3 +17,12 @@ given c = c.requires.0 and c.requires.1 and none
 pub returns : goal.returns
 unfolding emittance
 returns c = equal_in (given c) left quantities.emittance tt
+
+pub overflow_mul-result : goal.overflow_mul-result
+overflow_mul-result c = fits (given c) part tt
+
+pub nonzero_div-result : goal.nonzero_div-result
+nonzero_div-result c = divides (given c) part (lit 100) tt
+
+pub overflow_sub-result : goal.overflow_sub-result
+overflow_sub-result c = fits (given c) left tt

@@ -26,3 +26,12 @@ returns c =
     let b = c.before in
     rw (quotient_gives (given b) above below c.quotient.ensures tt)
     (said (ratio_is b) (ratio_in b.args.s b.args.q b.requires.0 b.requires.1 b.requires.2))
+
+pub overflow_mul-s : goal.overflow_mul-s
+overflow_mul-s c = fits (given c) above tt
+
+pub nonzero_div-q : goal.nonzero_div-q
+nonzero_div-q c = divides (given c) (arg 1) (lit 1_000) tt
+
+pub quotient-requires : goal.quotient-requires
+quotient-requires c = quotient_asks (given c) above below tt

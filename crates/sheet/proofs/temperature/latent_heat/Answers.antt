@@ -15,3 +15,12 @@ given c = c.requires and none
 pub returns : goal.returns
 unfolding M
 returns c = equal_in (given c) (latent_heat m) quantities.latent_heat tt
+
+pub overflow_sub-result : goal.overflow_sub-result
+overflow_sub-result c = fits (given c) (warmer m) tt
+
+pub overflow_mul-result : goal.overflow_mul-result
+overflow_mul-result c = fits (given c) (lit 787 *ᵐ warmer m) tt
+
+pub overflow_sub-result-2 : goal.overflow_sub-result-2
+overflow_sub-result-2 c = fits (given c) (latent_heat m) tt

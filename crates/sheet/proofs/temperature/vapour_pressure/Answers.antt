@@ -41,8 +41,29 @@ returns c =
     let p = equal_in (given c) (sum *ᵐ lit 338_639 ÷↓ᵐ lit 100_000) quantities.vapour_pressure tt in
     (p.0 ∙ ap (λ (v : ℤ). line v f) (c.fourth_power-v4.ensures.0 ∙ ap V4 (read c.before.requires tt)) ∙ line_is f, p.1)
 
+pub fourth_power-v4-requires : goal.fourth_power-v4-requires
+fourth_power-v4-requires c = search rules
+
+pub overflow_mul-v8 : goal.overflow_mul-v8
+overflow_mul-v8 c = fits (given c) (v4 *ᵐ v4) tt
+
+pub nonzero_div-v8 : goal.nonzero_div-v8
+nonzero_div-v8 c = divides (given c) (v4 *ᵐ v4) (lit 1_000_000_000) tt
+
+pub overflow_add-result : goal.overflow_add-result
+overflow_add-result c = fits (given c) (distance f) tt
+
+pub overflow_mul-result : goal.overflow_mul-result
+overflow_mul-result c = fits (given c) (lit 1_900 *ᵐ distance f) tt
+
+pub overflow_sub-result : goal.overflow_sub-result
+overflow_sub-result c = fits (given c) (v8 -ᵐ lit 1_900 *ᵐ distance f) tt
+
 pub overflow_add-result-2 : goal.overflow_add-result-2
 overflow_add-result-2 c = fits (given c) sum tt
 
 pub overflow_mul-result-2 : goal.overflow_mul-result-2
 overflow_mul-result-2 c = fits (given c) (sum *ᵐ lit 338_639) tt
+
+pub nonzero_div-result : goal.nonzero_div-result
+nonzero_div-result c = divides (given c) (sum *ᵐ lit 338_639) (lit 100_000) tt

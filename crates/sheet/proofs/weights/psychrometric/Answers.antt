@@ -20,3 +20,12 @@ unfolding g
 returns c =
     let b = c.before in
     rw (quotient_gives (given b) (above p) (below heat) c.quotient.ensures tt) (equal_in (given b) (psychrometric p heat) quantities.psychrometric tt)
+
+pub overflow_mul-p : goal.overflow_mul-p
+overflow_mul-p c = fits (given c) (above p) tt
+
+pub overflow_mul-heat : goal.overflow_mul-heat
+overflow_mul-heat c = fits (given c) (below heat) tt
+
+pub quotient-requires : goal.quotient-requires
+quotient-requires c = quotient_asks (given c) (above p) (below heat) tt

@@ -25,3 +25,12 @@ gives c = quotient_gives (given c.before) sum (lit 2) c.quotient.ensures tt
 pub returns : goal.returns
 unfolding «V»
 returns c = rw (gives c) (equal_in (given c.before) lack quantities.deficit tt)
+
+pub overflow_add-maximum : goal.overflow_add-maximum
+overflow_add-maximum c = fits (given c) sum tt
+
+pub quotient-requires : goal.quotient-requires
+quotient-requires c = quotient_asks (given c) sum (lit 2) tt
+
+pub overflow_sub-result : goal.overflow_sub-result
+overflow_sub-result c = rw (gives c) (fits (given c.before) lack tt)

@@ -36,5 +36,17 @@ returns c =
     let b = c.before in
     returned (called_of none (carried_is b) (arg 0 *ᵐ lit 643 ÷0ᵐ lit 100) quantities.drying c.toward_zero.ensures tt) tt
 
+pub toward_zero-hundredths-requires : goal.toward_zero-hundredths-requires
+toward_zero-hundredths-requires c = search rules
+
 pub overflow_mul-hundredths : goal.overflow_mul-hundredths
 overflow_mul-hundredths c = fits ((hundredths_is c).1 and given c.before) (arg 0 *ᵐ arg 2) tt
+
+pub toward_zero-carried-requires : goal.toward_zero-carried-requires
+toward_zero-carried-requires c = search rules
+
+pub overflow_mul-carried : goal.overflow_mul-carried
+overflow_mul-carried c = fits ((carried_is c).1 and none) (arg 0 *ᵐ lit 643) tt
+
+pub toward_zero-requires : goal.toward_zero-requires
+toward_zero-requires c = search rules
