@@ -8,8 +8,8 @@ use native.Mathlib.Omega.{arith}
 use lib.Dec.{T, lt→ltb}
 use lib.IntN.{pos}
 use lib.Signed.{◌<ℤ◌}
-use Rattle.numbers.specs.Solver.{◌:-◌, ◌:*◌, :-◌, ◌:=◌}
-use Rattle.numbers.specs.Ratios.{Ratio, ◌over◌, ◌+ᴿ◌, ◌*ᴿ◌}
+use Rattle.ratios.specs.Solver.{◌:-◌, ◌:*◌, :-◌, ◌:=◌}
+use Rattle.ratios.specs.Ratios.{Ratio, ◌over◌, ◌+ᴿ◌, ◌*ᴿ◌}
 use Rattle.numbers.proofs.RatioTests.{leᴿ}
 use Rattle.numbers.specs.Fractions.{ℚ, fraction, from_ℤ, ◌/ℚ◌, ◌+ℚ◌, ◌*ℚ◌, -ℚ◌, inverse, ◌÷ℚ◌, ◌≤ℚ◌, ◌<ℚ◌, Near}
 use Rattle.numbers.proofs.RoundingErrors.{nearest_error}

@@ -1,7 +1,7 @@
 -- How far a crop's figure lies from the unrounded equation's value times the percentage: within 1.7 ten-thousandths of an inch, as document 02, W1
 -- asks. What is proved is sharper: 1.53. Assumes nothing.
 use Rattle.std.specs.Prelude.{ℕ, pos}
-use Rattle.numbers.specs.Ratios.{Ratio, ◌over◌}
+use Rattle.ratios.specs.Ratios.{Ratio, ◌over◌}
 use Rattle.numbers.specs.Fractions.{ℚ, fraction, from_ℤ, ◌/ℚ◌, ◌-ℚ◌, ◌*ℚ◌, ◌÷ℚ◌, ◌≤ℚ◌, abs_ℚ}
 use Rattle.day.specs.Bound.{OfEveryValue}
 use Rattle.day.specs.declared.Day.{Day}

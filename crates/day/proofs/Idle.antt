@@ -5,7 +5,7 @@ use mathlib.Core.Path.{◌≡◌, refl, sym, ◌∙◌, ap, subst}
 use Prim.Native.Nat.{ℕ}
 use native.Mathlib.Omega.{arith}
 use lib.IntN.{pos}
-use Rattle.numbers.specs.Ratios.{◌over◌}
+use Rattle.ratios.specs.Ratios.{◌over◌}
 use Rattle.numbers.specs.Fractions.{ℚ, from_ℤ, ◌/ℚ◌, ◌+ℚ◌, ◌-ℚ◌, -ℚ◌, ◌*ℚ◌, ◌≤ℚ◌, abs_ℚ, nonneg, Near}
 use Rattle.numbers.proofs.Bounds.{bounded_abs, bounded_weaken}
 use Rattle.numbers.proofs.Near.{near, near_trans, near_sym}

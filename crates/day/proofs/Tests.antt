@@ -11,7 +11,7 @@ use lib.Signed.{lt_z, le_z}
 use mir.Syntax.{w16}
 use mir.Val.{SFits, to_z, of_z}
 use mir.Facts.{to_z-of_z}
-use Rattle.numbers.specs.Congruence.{bool_equal}
+use Rattle.ratios.proofs.Congruence.{bool_equal}
 use Rattle.numbers.specs.Ranges.{Range, InRange, in_range}
 use Rattle.numbers.proofs.RangeTests.{test_in_range}
 use Rattle.numbers.proofs.Reflection.{read_back}

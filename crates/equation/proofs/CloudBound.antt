@@ -6,8 +6,8 @@ use lib.Dec.{T}
 use lib.IntN.{ℤ, pos, negsuc, ◌-ℤ◌, ◌*ℤ◌}
 use lib.Signed.{lt_z, ◌≤ℤ◌}
 use Rattle.numbers.specs.Whole.{◌÷↓◌}
-use Rattle.numbers.specs.Solver.{◌:+◌, ◌:-◌, ◌:*◌, ◌:^◌, :-◌, ◌:=◌}
-use Rattle.numbers.specs.Ratios.{Ratio, ◌over◌}
+use Rattle.ratios.specs.Solver.{◌:+◌, ◌:-◌, ◌:*◌, ◌:^◌, :-◌, ◌:=◌}
+use Rattle.ratios.specs.Ratios.{Ratio, ◌over◌}
 use Rattle.numbers.proofs.RatioTests.{posᴿ}
 use Rattle.numbers.specs.Fractions.{ℚ, fraction, from_ℤ, ◌/ℚ◌, ◌+ℚ◌, ◌-ℚ◌, ◌*ℚ◌, -ℚ◌, inverse, ◌÷ℚ◌, ◌^ℚ◌, nonneg, ◌≤ℚ◌, ◌<ℚ◌, above_ℚ, at_least_ℚ}
 use Rattle.numbers.proofs.IntegerOrder.{le_z_is}

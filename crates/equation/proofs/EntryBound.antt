@@ -3,7 +3,7 @@ use mathlib.Core.Path.{◌≡◌, sym, ◌∙◌, ap}
 use Prim.Native.Nat.{ℕ}
 use lib.Dec.{T, le→leb}
 use lib.IntN.{ℤ, pos, negsuc, nat_abs}
-use Rattle.numbers.specs.Ratios.{Ratio, ◌over◌, ◌+ᴿ◌, ◌*ᴿ◌, -ᴿ◌, nonnegᴿ}
+use Rattle.ratios.specs.Ratios.{Ratio, ◌over◌, ◌+ᴿ◌, ◌*ᴿ◌, -ᴿ◌, nonnegᴿ}
 use Rattle.numbers.proofs.RatioTests.{leᴿ}
 use Rattle.numbers.specs.Ranges.{from◌to◌, InRange}
 use Rattle.numbers.specs.Fractions.{ℚ, fraction, ◌/ℚ◌, ◌+ℚ◌, ◌*ℚ◌, ◌≤ℚ◌}

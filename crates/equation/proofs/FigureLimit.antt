@@ -4,8 +4,8 @@ use mathlib.Core.List.{List}
 use Prim.Native.Nat.{ℕ, ◌≤◌}
 use lib.Dec.{T}
 use lib.IntN.{ℤ, pos}
-use Rattle.numbers.specs.Solver.{◌:*◌, ◌:^◌, ◌:=◌}
-use Rattle.numbers.specs.Ratios.{Ratio, ◌over◌, nonnegᴿ}
+use Rattle.ratios.specs.Solver.{◌:*◌, ◌:^◌, ◌:=◌}
+use Rattle.ratios.specs.Ratios.{Ratio, ◌over◌, nonnegᴿ}
 use Rattle.numbers.specs.Fractions.{ℚ, fraction, from_ℤ, ◌/ℚ◌, ◌*ℚ◌}
 use Rattle.numbers.specs.Rounding.{RootOf}
 use Rattle.numbers.proofs.FractionSolver.{ring_ℚ, ◌#◌}

@@ -8,7 +8,7 @@ use lib.IntN.{ℤ, pos, nat_abs}
 use lib.ListN.{length}
 use lib.Signed.{◌≤ℤ◌}
 use Rattle.numbers.specs.Ranges.{InRange}
-use Rattle.numbers.specs.Ratios.{Ratio, ◌over◌}
+use Rattle.ratios.specs.Ratios.{Ratio, ◌over◌}
 use Rattle.numbers.specs.Fractions.{ℚ, fraction, from_ℤ, ◌/ℚ◌, ◌-ℚ◌, ◌*ℚ◌, ◌≤ℚ◌, abs_ℚ}
 use Rattle.numbers.specs.Rounding.{RootOf}
 use Rattle.tables.specs.Series.{HalfUnit}

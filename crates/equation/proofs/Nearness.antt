@@ -8,7 +8,7 @@ use lib.IntN.{ℤ, pos, negsuc, nat_abs, ◌*ℤ◌}
 use lib.ListN.{length}
 use lib.Signed.{le_z, ◌<ℤ◌}
 use Rattle.numbers.specs.Ranges.{InRange}
-use Rattle.numbers.specs.Ratios.{◌over◌}
+use Rattle.ratios.specs.Ratios.{◌over◌}
 use Rattle.numbers.specs.Fractions.{ℚ, from_ℤ, ◌/ℚ◌, ◌*ℚ◌, ◌≤ℚ◌}
 use Rattle.numbers.proofs.Order.{<ℚ_ratio, <ℚ-≤ℚ_trans}
 use Rattle.numbers.proofs.Rounded.{Rounded, rounded_abs, of_whole, at_least}

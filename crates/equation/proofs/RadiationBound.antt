@@ -4,8 +4,8 @@ use mathlib.Core.Path.{◌≡◌, sym, ◌∙◌, ap}
 use Prim.Native.Nat.{ℕ}
 use lib.IntN.{ℤ, pos, ◌*ℤ◌}
 use Rattle.numbers.specs.Whole.{whole_root}
-use Rattle.numbers.specs.Solver.{◌:+◌, ◌:-◌, ◌:*◌, ◌:=◌}
-use Rattle.numbers.specs.Ratios.{◌over◌}
+use Rattle.ratios.specs.Solver.{◌:+◌, ◌:-◌, ◌:*◌, ◌:=◌}
+use Rattle.ratios.specs.Ratios.{◌over◌}
 use Rattle.numbers.specs.Fractions.{ℚ, ◌/ℚ◌, ◌+ℚ◌, ◌-ℚ◌, ◌*ℚ◌, ◌÷ℚ◌, ◌^ℚ◌, ◌≤ℚ◌}
 use Rattle.numbers.specs.Rounding.{RootOf}
 use Rattle.numbers.proofs.FractionSolver.{ring_ℚ, ◌#◌}

@@ -6,8 +6,8 @@ use native.Mathlib.Omega.{arith}
 use lib.IntN.{ℤ, pos, negsuc, ◌-ℤ◌, ◌*ℤ◌}
 use lib.ListN.{length}
 use lib.Signed.{◌≤ℤ◌}
-use Rattle.numbers.specs.Solver.{con, ◌:+◌, ◌:-◌, ◌:*◌, :-◌, ◌:=◌}
-use Rattle.numbers.specs.Ratios.{◌over◌}
+use Rattle.ratios.specs.Solver.{con, ◌:+◌, ◌:-◌, ◌:*◌, :-◌, ◌:=◌}
+use Rattle.ratios.specs.Ratios.{◌over◌}
 use Rattle.numbers.specs.Fractions.{ℚ, from_ℤ, ◌/ℚ◌, ◌+ℚ◌, ◌-ℚ◌, ◌*ℚ◌, -ℚ◌, inverse, ◌÷ℚ◌, ◌≤ℚ◌, ◌<ℚ◌}
 use Rattle.numbers.proofs.FractionSolver.{ring_ℚ, from_multiple_ℚ, ◌#◌}
 use Rattle.numbers.proofs.Order.{nonneg_add, nonneg_mul, nonneg_ratio, gap, from_gap, ≤ℚ_eq, <ℚ_ratio, <ℚ-≤ℚ_trans}

@@ -5,9 +5,9 @@ use lib.Dec.{T}
 use lib.IntN.{ℤ, pos, negsuc, ◌+ℤ◌, ◌-ℤ◌, ◌*ℤ◌, *ℤ_comm}
 use lib.Signed.{◌≤ℤ◌}
 use Rattle.numbers.specs.Whole.{◌÷↓◌}
-use Rattle.numbers.specs.Solver.{con, ◌:+◌, ◌:-◌, ◌:*◌, ◌:^◌, ◌:=◌}
-use Rattle.numbers.specs.IntegerSolver.{ring_ℤ}
-use Rattle.numbers.specs.Ratios.{Ratio, ◌over◌, ◌*ᴿ◌, -ᴿ◌, nonnegᴿ}
+use Rattle.ratios.specs.Solver.{con, ◌:+◌, ◌:-◌, ◌:*◌, ◌:^◌, ◌:=◌}
+use Rattle.ratios.specs.IntegerSolver.{ring_ℤ}
+use Rattle.ratios.specs.Ratios.{Ratio, ◌over◌, ◌*ᴿ◌, -ᴿ◌, nonnegᴿ}
 use Rattle.numbers.proofs.RatioTests.{leᴿ}
 use Rattle.numbers.specs.Fractions.{ℚ, fraction, from_ℤ, ◌/ℚ◌, ◌+ℚ◌, ◌-ℚ◌, ◌*ℚ◌, ◌^ℚ◌, ◌≤ℚ◌, abs_ℚ}
 use Rattle.numbers.proofs.FractionSolver.{ring_ℚ, ◌#◌, fraction_product}

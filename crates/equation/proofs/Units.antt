@@ -1,5 +1,5 @@
 -- The units of the step sheet's numbers. Assumes nothing.
-use Rattle.numbers.specs.Ratios.{Ratio, ◌over◌}
+use Rattle.ratios.specs.Ratios.{Ratio, ◌over◌}
 
 abbrev pub billionths : Ratio
 billionths = 1 over 1000000000

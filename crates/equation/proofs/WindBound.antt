@@ -6,9 +6,9 @@ use lib.Dec.{T}
 use lib.IntN.{ℤ, pos, ◌+ℤ◌, ◌*ℤ◌, *ℤ_comm}
 use lib.Signed.{◌≤ℤ◌}
 use Rattle.numbers.specs.Whole.{◌÷↓◌, ◌÷0◌, at_most_ℤ}
-use Rattle.numbers.specs.Solver.{con, ◌:+◌, ◌:-◌, ◌:*◌, ◌:=◌}
-use Rattle.numbers.specs.IntegerSolver.{ring_ℤ}
-use Rattle.numbers.specs.Ratios.{◌over◌}
+use Rattle.ratios.specs.Solver.{con, ◌:+◌, ◌:-◌, ◌:*◌, ◌:=◌}
+use Rattle.ratios.specs.IntegerSolver.{ring_ℤ}
+use Rattle.ratios.specs.Ratios.{◌over◌}
 use Rattle.numbers.specs.Fractions.{ℚ, ◌/ℚ◌, ◌+ℚ◌, ◌-ℚ◌, ◌*ℚ◌, ◌÷ℚ◌, nonneg, ◌≤ℚ◌, at_most_ℚ}
 use Rattle.numbers.proofs.FractionSolver.{ring_ℚ, ◌#◌}
 use Rattle.numbers.proofs.Order.{NonNeg, nonneg_add, nonneg_mul, nonneg_ratio, nonneg_of, gap, from_gap, ≤ℚ_refl, ≤ℚ_ratio}

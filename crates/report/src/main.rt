@@ -4,7 +4,8 @@
 
 ghost use Rattle.io.specs.Counts.{IsPrefixLen};
 
-use libc::{STDERR_FILENO, STDIN_FILENO, STDOUT_FILENO};
+use std::env::{Env, FillError};
+use std::io::{Eprint, Print, Read};
 
 // How many bytes were read, and whether a read failed behind them.
 #[derive(Clone, Copy)]
@@ -15,20 +16,24 @@ struct Input {
 
 // Reads standard input to its end, or as far as there is room. It goes by what each read answers, and asks none again: a connection that was reset
 // fails once, and from then on looks as if it had ended.
-fn read_input(log: &mut [u8]) -> Input
+fn read_input(rt: HostRuntime, log: &mut [u8]) -> Input
     ensures { IsPrefixLen result.size log.new }
 {
+    let mut stdin = rt.stdin();
     let mut size = 0;
     while size < log.len() {
-        let got = libc::read(STDIN_FILENO, &mut log[size..]);
-        let more = io::count(got, &log[size..]);
-        if more == 0 {
-            return Input {
-                size,
-                failed: got < 0,
-            };
+        match stdin.read(&mut log[size..]) {
+            Ok(0) => {
+                return Input {
+                    size,
+                    failed: false,
+                };
+            }
+            Ok(more) => size += more,
+            Err(_) => {
+                return Input { size, failed: true };
+            }
         }
-        size += more;
     }
     Input {
         size,
@@ -37,30 +42,27 @@ fn read_input(log: &mut [u8]) -> Input
 }
 
 // Prints the report of a log.
-fn print(log: &[u8]) {
+fn print(rt: HostRuntime, log: &[u8]) {
     let mut answers = [0u8; text::LONGEST_ANSWERS];
     let mut text = [0u8; text::LONGEST_REPORT];
     let size = text::whole_report(log, &mut answers, &mut text);
-    if !io::write_all(STDOUT_FILENO, &text[..size]) {
-        io::write_all(STDERR_FILENO, b"report: standard output takes no more\n");
+    if rt.stdout().write_all(&text[..size]).is_err() {
+        let _ = rt.eprintln("report: standard output takes no more");
     }
 }
 
-fn main() {
-    if os::arg_count() > 1 {
-        io::write_all(STDERR_FILENO, b"usage: report < LOG\n");
+fn main(rt: HostRuntime) {
+    if !matches!(rt.arg(1, &mut [0u8; 1]), Err(FillError::NotPresent)) {
+        let _ = rt.eprintln("usage: report < LOG");
         return;
     }
     // The longest log, and one byte more, so that a longer one is seen to be longer.
     let mut log = [0u8; 65_537];
-    let input = read_input(&mut log);
+    let input = read_input(rt, &mut log);
     if input.failed {
-        io::write_all(
-            STDERR_FILENO,
-            b"report: standard input cannot be read to its end\n",
-        );
+        let _ = rt.eprintln("report: standard input cannot be read to its end");
         return;
     }
     let size = input.size;
-    print(&log[..size]);
+    print(rt, &log[..size]);
 }

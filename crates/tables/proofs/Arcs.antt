@@ -2,8 +2,8 @@
 use mathlib.Core.Path.{◌≡◌, sym, ◌∙◌, ap, ap₂}
 use Prim.Native.Nat.{ℕ, ◌+◌, ◌*◌}
 use lib.Dec.{T}
-use Rattle.numbers.specs.Solver.{◌:+◌, ◌:-◌, ◌:*◌, ◌:=◌}
-use Rattle.numbers.specs.Ratios.{◌over◌}
+use Rattle.ratios.specs.Solver.{◌:+◌, ◌:-◌, ◌:*◌, ◌:=◌}
+use Rattle.ratios.specs.Ratios.{◌over◌}
 use Rattle.numbers.specs.Fractions.{ℚ, ◌+ℚ◌, ◌*ℚ◌, ◌≤ℚ◌}
 use Rattle.numbers.proofs.FractionSolver.{ring_ℚ, ◌#◌}
 use Rattle.numbers.proofs.Order.{NonNeg, nonneg_add, nonneg_mul, nonneg_ratio, nonneg_of, of_nonneg, gap, from_gap, ≤ℚ_trans}

@@ -6,7 +6,7 @@ use Prim.Native.Nat.{ℕ, ◌*◌, ◌-◌, ◌^◌, ◌≤◌}
 use native.Mathlib.Nat.{le_total}
 use native.Mathlib.Omega.{arith}
 use lib.Dec.{T}
-use Rattle.numbers.specs.Solver.{◌:-◌, ◌:*◌, ◌:^◌, ◌:=◌}
+use Rattle.ratios.specs.Solver.{◌:-◌, ◌:*◌, ◌:^◌, ◌:=◌}
 use Rattle.numbers.specs.Ranges.{Range}
 use Rattle.numbers.specs.Fractions.{ℚ, ◌*ℚ◌, ◌-ℚ◌, ◌^ℚ◌}
 use Rattle.numbers.proofs.FractionSolver.{ring_ℚ}

@@ -25,7 +25,7 @@ use Rattle.tables.proofs.SumTests.{near_test, Encloses, sum_nearest}
 -- the value at each day meets the table's rule, and is in its range
 pub record DayValues (value : ℕ → ℕ) (Rule : ℕ → ℕ → Type 0) (range : Range) : Type 0 where
   pub rule : (d : ℕ) → 1 ≤ d → d ≤ 366 → Rule d (value d)
-  pub in_range_lem : (d : ℕ) → 1 ≤ d → d ≤ 366 → InRange range (pos (value d))
+  pub in_range : (d : ℕ) → 1 ≤ d → d ≤ 366 → InRange range (pos (value d))
 
 -- the sums of a curve at two places that follow each other
 abbrev pub places_test : Curve → ℕ → Enclosure → Enclosure → Bool
@@ -64,7 +64,7 @@ curve_values range c b s Rule rule test =
       rule = λ d l h. rule d (curve_at c d)
           (λ t e. subst₂ (λ x y. NearestOfSeries billionth (curve_at c d) (record { at = λ s. x +ℚ y *ℚ s; terms = t })) b s
           (curve_nearest c d (curve_at c d) (passed d l h).1 e));
-      in_range_lem = λ d l h. test_in_range range (pos (curve_at c d)) (passed d l h).0;
+      in_range = λ d l h. test_in_range range (pos (curve_at c d)) (passed d l h).0;
     }
   where
     places : ℕ → Bool
@@ -88,6 +88,6 @@ table_of_values {value} {Rule} {range} values xs n test =
           record {
             is_value = is;
             rule = subst (λ (k : ℕ). Rule d k) (sym is) (values.rule d l h);
-            in_range_lem = subst (λ (k : ℕ). InRange range (pos k)) (sym is) (values.in_range_lem d l h);
+            in_range = subst (λ (k : ℕ). InRange range (pos k)) (sym is) (values.in_range d l h);
           };
     }

@@ -1,7 +1,7 @@
 -- What is nearest is within half a unit (`nearest_half`); and r is nearest to base + scale · y, if it is for two numbers that y lies between.
 -- Assumes nothing.
 use Prim.Native.Nat.{ℕ}
-use Rattle.numbers.specs.Solver.{◌:+◌, ◌:-◌, ◌:*◌, :-◌, ◌:=◌}
+use Rattle.ratios.specs.Solver.{◌:+◌, ◌:-◌, ◌:*◌, :-◌, ◌:=◌}
 use Rattle.numbers.specs.Fractions.{ℚ, ◌+ℚ◌, ◌*ℚ◌, ◌≤ℚ◌}
 use Rattle.numbers.proofs.FractionSolver.{ring_ℚ, ◌#◌}
 use Rattle.numbers.proofs.Order.{NonNeg, nonneg_mul, gap, from_gap, <ℚ-≤ℚ, <ℚ-≤ℚ_trans, ≤ℚ-<ℚ_trans}

@@ -9,8 +9,8 @@ use native.Mathlib.Omega.{arith}
 use lib.Dec.{T, ltb, ltb→lt, lt→ltb, lit<}
 use lib.IntN.{pos}
 use lib.ListN.{length, get_or}
-use Rattle.numbers.specs.Solver.{◌:+◌, ◌:-◌, ◌:*◌, ◌:=◌}
-use Rattle.numbers.specs.Ratios.{Ratio, ◌over◌, ◌*ᴿ◌}
+use Rattle.ratios.specs.Solver.{◌:+◌, ◌:-◌, ◌:*◌, ◌:=◌}
+use Rattle.ratios.specs.Ratios.{Ratio, ◌over◌, ◌*ᴿ◌}
 use Rattle.numbers.proofs.RatioTests.{eqᴿ}
 use Rattle.numbers.specs.Ranges.{InRange, in_range}
 use Rattle.numbers.specs.Fractions.{ℚ, fraction, ◌+ℚ◌, ◌*ℚ◌, ◌-ℚ◌}
@@ -101,7 +101,7 @@ pressure_entry e r l test =
     record {
       is_value = pressure_is e r l passed.1;
       rule = pressure_rule e r l (omega (arith, ranged.bounds.0)) (pressure_nearest e r l passed.1);
-      in_range_lem = ranged;
+      in_range = ranged;
     }
 
 -- a table of 3,001 entries that all pass the test

@@ -3,8 +3,8 @@ use mathlib.Core.Path.{◌≡◌, refl, sym, ◌∙◌, ap, ap₂}
 use Prim.Native.Nat.{ℕ, zero, suc, ◌+◌, ◌*◌, ◌<◌}
 use native.Mathlib.Nat.{mul-pos}
 use native.Mathlib.Omega.{arith}
-use Rattle.numbers.specs.Solver.{◌:-◌, ◌:*◌, ◌:=◌}
-use Rattle.numbers.specs.Ratios.{◌over◌}
+use Rattle.ratios.specs.Solver.{◌:-◌, ◌:*◌, ◌:=◌}
+use Rattle.ratios.specs.Ratios.{◌over◌}
 use Rattle.numbers.specs.Fractions.{ℚ, ◌*ℚ◌, ◌^ℚ◌, inverse, ◌≤ℚ◌}
 use Rattle.numbers.proofs.FractionSolver.{ring_ℚ, from_multiple_ℚ, ◌#◌}
 use Rattle.numbers.proofs.Order.{NonNeg, *ℚ_mono, <ℚ_ratio}

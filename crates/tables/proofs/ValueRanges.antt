@@ -13,16 +13,16 @@ use Rattle.tables.proofs.DayRules.{albedo_values, a1_values, aw_values, bw_value
 use Rattle.tables.proofs.PressureValues.{enough, sea_level_enough}
 
 pub albedo_in : (d : ℕ) → 1 ≤ d → d ≤ 366 → InRange albedo_range (pos (albedo_at d))
-albedo_in = albedo_values.in_range_lem
+albedo_in = albedo_values.in_range
 
 pub a1_in : (d : ℕ) → 1 ≤ d → d ≤ 366 → InRange a1_range (pos (a1_at d))
-a1_in = a1_values.in_range_lem
+a1_in = a1_values.in_range
 
 pub aw_in : (d : ℕ) → 1 ≤ d → d ≤ 366 → InRange aw_range (pos (aw_at d))
-aw_in = aw_values.in_range_lem
+aw_in = aw_values.in_range
 
 pub bw_in : (d : ℕ) → 1 ≤ d → d ≤ 366 → InRange bw_range (pos (bw_at d))
-bw_in = bw_values.in_range_lem
+bw_in = bw_values.in_range
 
 -- uᵏ bᵐ against aᵐ dᵏ, from numbers on either side
 powers_le : (u v a b c d k m : ℕ) → u ≤ v → c ≤ a → v ^ k * b ^ m ≤ c ^ m * d ^ k → u ^ k * b ^ m ≤ a ^ m * d ^ k

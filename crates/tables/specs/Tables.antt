@@ -72,7 +72,7 @@ pub record PressureEntry (e r : ℕ) : Type 0 where
 pub record Entry (value : ℕ) (Rule : ℕ → Type 0) (range : Range) (r : ℕ) : Type 0 where
   pub is_value : r ≡ value
   pub rule : Rule r
-  pub in_range_lem : InRange range (pos r)
+  pub in_range : InRange range (pos r)
 
 abbrev pub albedo_range : Range
 albedo_range = from 230000000 to 350000000

@@ -3,12 +3,8 @@ use mathlib.Core.Path.{refl}
 use Rattle.tables.specs.Values.{sum_to, more, arc_sum, arc_sums, sin_sum, rounded, curve_at}
 use Rattle.tables.proofs.Curves.{table_of_values}
 use Rattle.tables.proofs.DayRules.{albedo_values}
-use Rattle.tables.proofs.albedos.Statement.{statement}
-use Rattle.tables.proofs.albedos.Tie as tie
+use Rattle.tables.proofs.albedos.Goals as goal
 
-returns : tie.Need-returns
+pub returns : goal.returns
 unfolding curve_at rounded arc_sum arc_sums sin_sum sum_to more
 returns c = table_of_values albedo_values _ refl tt
-
-pub albedos-spec : {M : Type 1} → statement M
-albedos-spec = tie.close (tie.spec returns)

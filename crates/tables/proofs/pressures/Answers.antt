@@ -2,12 +2,8 @@
 use mathlib.Core.Path.{refl}
 use Rattle.tables.proofs.PowerTests.{power_test, upper, lower, tenth_up, tenth_down}
 use Rattle.tables.proofs.PressureEntries.{pressure_test, pressure_table}
-use Rattle.tables.proofs.pressures.Statement.{statement}
-use Rattle.tables.proofs.pressures.Tie as tie
+use Rattle.tables.proofs.pressures.Goals as goal
 
-returns : tie.Need-returns
+pub returns : goal.returns
 unfolding pressure_test power_test upper lower tenth_up tenth_down
 returns c = pressure_table _ refl tt
-
-pub pressures-spec : {M : Type 1} → statement M
-pressures-spec = tie.close (tie.spec returns)

@@ -3,12 +3,8 @@ use mathlib.Core.Path.{refl}
 use Rattle.tables.specs.Values.{sum_to, more, bell_sums, exp_sum, rounded, curve_at}
 use Rattle.tables.proofs.Curves.{table_of_values}
 use Rattle.tables.proofs.DayRules.{aw_values}
-use Rattle.tables.proofs.aw_factors.Statement.{statement}
-use Rattle.tables.proofs.aw_factors.Tie as tie
+use Rattle.tables.proofs.aw_factors.Goals as goal
 
-returns : tie.Need-returns
+pub returns : goal.returns
 unfolding curve_at rounded bell_sums exp_sum sum_to more
 returns c = table_of_values aw_values _ refl tt
-
-pub aw-factors-spec : {M : Type 1} → statement M
-aw-factors-spec = tie.close (tie.spec returns)
