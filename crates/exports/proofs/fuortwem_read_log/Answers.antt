@@ -1,0 +1,36 @@
+-- `exports::fuortwem_read_log` meets its contract: no length or offset needs more than the low half. Assumes nothing.
+use mathlib.Core.Path.{sym, ap, ◌∙◌}
+use Rattle.exports.specs.Told.{outcome_said}
+use Rattle.exports.proofs.Returned.{written_small, refused_small, refused_said, length_said}
+use Rattle.exports.proofs.fuortwem_read_log.Goals as goal
+
+pub overflow_cast-n : goal.overflow_cast-n
+overflow_cast-n c = record { fits = written_small _ _ c.in-Written.ensures.read.outcome }
+
+pub overflow_cast-place : goal.overflow_cast-place
+overflow_cast-place c = record { fits = refused_small _ _ c.in-Refused.ensures.read.outcome }
+
+pub returns-in-Written : goal.returns-in-Written
+returns-in-Written c =
+    let read = c.in-Written.ensures in
+    let said = c.packed.ensures ∙ ap outcome_said read.read.outcome in
+    record {
+      result_value = said;
+      length_said = length_said _ _ _ said;
+      answers_after = read.read.written;
+      figures_owed = read.figures_owed;
+      crop_figures_owed = read.crop_figures_owed;
+    }
+
+pub returns-in-Refused : goal.returns-in-Refused
+returns-in-Refused c =
+    let read = c.in-Refused.ensures in
+    let outcome = read.read.outcome in
+    let said = c.packed-in-Refused.ensures ∙ refused_said _ _ outcome ∙ ap outcome_said outcome in
+    record {
+      result_value = said;
+      length_said = length_said _ _ _ said;
+      answers_after = read.read.written;
+      figures_owed = read.figures_owed;
+      crop_figures_owed = read.crop_figures_owed;
+    }
