@@ -9,7 +9,7 @@ use lib.Signed.{non_neg, ◌≤ℤ◌}
 use Rattle.ratios.specs.Solver.{◌:+◌, ◌:-◌, ◌:*◌, :-◌, ◌:=◌}
 use Rattle.ratios.specs.IntegerSolver.{ring_ℤ}
 use Rattle.ratios.specs.Ratios.{Ratio, denominator}
-use Rattle.numbers.specs.Fractions.{ℚ, fraction, ◌≤ℚ◌}
+use Rattle.numbers.specs.Fractions.{fraction, ◌≤ℚ◌}
 use Rattle.numbers.proofs.IntegerOrder.{≤ℤ_antisym, gap_test, test_gap}
 use Rattle.numbers.proofs.Order.{computed, ≤ℚ_eq}
 

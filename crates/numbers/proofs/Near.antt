@@ -7,7 +7,7 @@ use Rattle.ratios.specs.Solver.{◌:+◌, ◌:-◌, ◌:*◌, :-◌, ◌:=◌}
 use Rattle.ratios.specs.Ratios.{◌over◌}
 use Rattle.numbers.specs.Fractions.{ℚ, from_ℤ, ◌+ℚ◌, ◌*ℚ◌, -ℚ◌, ◌-ℚ◌, inverse, ◌÷ℚ◌, nonneg, ◌≤ℚ◌, ◌<ℚ◌, abs_ℚ, at_least_ℚ, at_most_ℚ, Near}
 use Rattle.numbers.proofs.FractionSolver.{ring_ℚ, from_multiple_ℚ, ◌#◌}
-use Rattle.numbers.proofs.Order.{NonNeg, nonneg_add, nonneg_mul, nonneg_negate, nonneg_ratio, gap, from_gap, ≤ℚ_eq, ≤ℚ_trans, <ℚ-≤ℚ_trans}
+use Rattle.numbers.proofs.Order.{NonNeg, nonneg_add, nonneg_mul, nonneg_negate, nonneg_ratio, gap, from_gap, ≤ℚ_eq, <ℚ-≤ℚ_trans}
 use Rattle.numbers.proofs.Inverse.{*ℚ_inverse, nonneg_inverse_of}
 use Rattle.numbers.proofs.Bounds.{Bounded, above, below, bounded, bounded_add, bounded_neg, bounded_mul, bounded_scale, bounded_weaken, bounded_eq, bounded_inverse, abs_bounded, bound_nonneg}
 

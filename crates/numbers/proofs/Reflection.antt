@@ -2,7 +2,7 @@
 -- that the machine's value is what the expression means. `range e rs` is a range of e where the arguments are in the ranges rs; `safe e rs` tests
 -- that each part fits an `i64`. The answers that a proof takes are `fits`, `divides`, `equal_in` and `called`, and of a call of `quotient`
 -- `quotient_asks` and `quotient_gives`. Assumes nothing.
-use mathlib.Core.Path.{◌≡◌, refl, sym, ap, ap₂, ◌∙◌, subst}
+use mathlib.Core.Path.{◌≡◌, refl, sym, ap₂, ◌∙◌, subst}
 use mathlib.Core.Bool.{Bool, ◌&&◌}
 use mathlib.Core.List.{List, [], ◌∷◌}
 use Prim.Native.Nat.{ℕ, zero, suc, ◌<◌, zero-le}

@@ -1,6 +1,6 @@
 -- What the operations and the tests of ratios make of two ratios that are one fraction: they see the fraction alone. Fractions.antt needs this
 -- to be well formed; nothing here has to be believed. Assumes nothing.
-use Rattle.std.specs.Prelude.{◌≡◌, refl, Bool, true, false, ℕ, zero, suc, ◌+◌, ◌*◌, T, ℤ, pos, negsuc, neg_ℤ, ◌*ℤ◌}
+use Rattle.std.specs.Prelude.{◌≡◌, refl, Bool, true, false, ℕ, zero, suc, ◌*◌, T, ℤ, pos, negsuc, neg_ℤ, ◌*ℤ◌}
 use Rattle.std.proofs.Common.{sym, ◌∙◌, ap, subst, suc-mul, add-suc, mul_comm, zero-mul, arith}
 use Rattle.std.specs.Int.Signed.{non_neg}
 use Rattle.ratios.specs.Solver.{con, ◌:+◌, ◌:-◌, ◌:*◌, :-◌, ◌:=◌}

@@ -7,7 +7,7 @@ use Rattle.std.proofs.Common.{sym, ◌∙◌, ap, ap₂}
 use mathlib.Core.List.{List, [], ◌∷◌}
 use Prim.Native.Nat.{ℕ, zero, suc}
 use Rattle.ratios.specs.Rings.{CommutativeRing, equal_of_difference}
-use Rattle.ratios.specs.Polynomials.{Coefficients, Value, polynomials, ev_p, ev_p_constant, ev_p_variable, at_variable}
+use Rattle.ratios.specs.Polynomials.{Coefficients, Value, polynomials, ev_p_constant, ev_p_variable, at_variable}
 
 -- ---- expressions and equations, with numbers of the type K
 
