@@ -25,6 +25,7 @@ fn over_any(stages: [u8; 11]) -> bool
 }
 
 // Refusal 13.
+#[tactic(auto, unfolding(crate::specs::Crop::bad_crop))]
 pub fn bad_crop(crop: Crop) -> bool
     ensures { result ≡ bad_crop crop }
 {
@@ -61,6 +62,7 @@ pub fn bad_crop(crop: Crop) -> bool
 }
 
 // Whether a date is one of the crop's year, from S to F.
+#[tactic(auto, unfolding(crate::specs::Crop::in_season))]
 pub fn in_season(crop: Crop, year: u16, d: u16) -> bool
     ensures { result ≡ in_season crop year d }
 {
