@@ -1,6 +1,5 @@
-//! Links the static library that `rt staticlib exports` writes to ../target/staticlib, writes the entries of the
-//! library's table sources as Rust arrays for the plain version, and compiles the published routine where a Fortran
-//! compiler is installed.
+//! Links the static library that `rt lib` writes to ../crates/exports/out, writes the entries of the library's table
+//! sources as Rust arrays for the plain version, and compiles the published routine where a Fortran compiler is installed.
 use std::env;
 use std::fs;
 use std::path::{Path, PathBuf};
@@ -12,7 +11,7 @@ mod table_rows;
 fn main() {
     let here = PathBuf::from(env::var_os("CARGO_MANIFEST_DIR").expect("cargo sets it"));
     let out = PathBuf::from(env::var_os("OUT_DIR").expect("cargo sets it"));
-    link_library(&here.join("../target/staticlib"));
+    link_library(&here.join("../crates/exports/out"));
     write_tables(&here.join("../crates/tables/src"), &out);
     compile_routine(&here.join("fortran/etpcomp.f"), &out);
 }
@@ -23,7 +22,7 @@ fn link_library(folder: &Path) {
     println!("cargo:rerun-if-changed={}", archive.display());
     if !archive.is_file() {
         println!(
-            "cargo::error=there is no target/staticlib/libexports.a: run `rt staticlib exports` in the repository's folder first"
+            "cargo::error=there is no crates/exports/out/libexports.a: run `rt lib` in crates/exports first"
         );
     }
     println!("cargo:rustc-link-search=native={}", folder.display());

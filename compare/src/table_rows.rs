@@ -1,4 +1,4 @@
-//! The five tables as they stand in the library's sources: each one constant, `= [NUMBER, NUMBER, ..];`, an entry a line.
+//! The five tables as they stand in the library's sources: each one constant, `= [NUMBER, NUMBER, ..];`.
 use std::path::Path;
 
 /// albedo, a1, aw, bw and the pressure, each with its name.

@@ -132,7 +132,7 @@ fn values(compiler: &str, language: &str, source: &Path) -> Option<BTreeMap<Stri
         .arg(root().join("crates/exports"))
         .arg(source)
         .args(["-x", "none"])
-        .arg(root().join("target/staticlib/libexports.a"))
+        .arg(root().join("crates/exports/out/libexports.a"))
         .arg("-o")
         .arg(&program)
         .status();
@@ -187,15 +187,15 @@ fn constants_are_those_of_the_definitions() {
         ("VERSION", compare::office::version().into()),
         (
             "LONGEST_LOG",
-            defined("crates/log/specs/Log.antt", "longest"),
+            defined("crates/station_log/specs/Log.antt", "longest"),
         ),
         (
             "LONGEST_ANSWERS",
-            defined("crates/log/specs/Parts.antt", "longestAnswers"),
+            defined("crates/station_log/specs/Parts.antt", "longest_answers"),
         ),
         (
             "LONGEST_REPORT",
-            defined("crates/text/specs/Walk.antt", "longestReport"),
+            defined("crates/text/specs/Walk.antt", "longest_report"),
         ),
         ("MISSING", compare::MISSING.into()),
         ("ROUTINE_LIMIT", compare::ROUTINE_LIMIT.into()),

@@ -1,5 +1,5 @@
 //! The report program, run on logs: what it prints, byte by byte. The environment variable REPORT_PROGRAM names a program other
-//! than ../target/bin/report.
+//! than ../crates/report/out/report.
 use super::logs::full_logs;
 use super::months::MonthTally;
 use super::without_report::{compare_argument, runs_without_report, says};
@@ -16,12 +16,12 @@ fn report_program() -> Result<PathBuf, String> {
     if let Some(named) = std::env::var_os("REPORT_PROGRAM") {
         return Ok(named.into());
     }
-    let program = Path::new(env!("CARGO_MANIFEST_DIR")).join("../target/bin/report");
+    let program = Path::new(env!("CARGO_MANIFEST_DIR")).join("../crates/report/out/report");
     if program.is_file() {
         return Ok(program);
     }
     Err(
-        "there is no target/bin/report: run `rt check report` in the repository's folder first"
+        "there is no crates/report/out/report: run `rt run <stdin` in crates/report first"
             .into(),
     )
 }
