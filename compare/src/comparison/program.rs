@@ -20,10 +20,7 @@ fn report_program() -> Result<PathBuf, String> {
     if program.is_file() {
         return Ok(program);
     }
-    Err(
-        "there is no crates/report/out/report: run `rt run <stdin` in crates/report first"
-            .into(),
-    )
+    Err("there is no crates/report/out/report: run `rt run <stdin` in crates/report first".into())
 }
 
 /// Writes a log in so many pieces, and then closes the pipe.

@@ -43,12 +43,12 @@ const ROWS: [(&str, &[&str]); 7] = [
         &["promises::read_log CropFiguresOwed"],
     ),
     (
-        "and the report: `Prints`, `reportOf`, `ReportOwed`; the program's: `wholeReport`, `AtFront`",
+        "and the report: `Prints`, `report_of`, `ReportOwed`; the program's: `whole_report`, `AtFront`",
         &[
             "text::write_report Prints",
-            "text::write_report reportOf",
+            "text::write_report report_of",
             "text::write_report ReportOwed",
-            "text::whole_report wholeReport",
+            "text::whole_report whole_report",
             "text::whole_report AtFront",
         ],
     ),
@@ -57,16 +57,16 @@ const ROWS: [(&str, &[&str]); 7] = [
 /// What is passed over with all that only it needs. The tables' values: the contract of each lookup ties its value to the
 /// rule. And the laws by which the operations on ratios are such on fractions: a definition names them as its proof.
 const LOOKUPS: [&str; 5] = [
-    "tables::albedo albedoAt",
-    "tables::a1 a1At",
-    "tables::aw awAt",
-    "tables::bw bwAt",
-    "tables::pressure pressureAt",
+    "tables::albedo albedo_at",
+    "tables::a1 a1_at",
+    "tables::aw aw_at",
+    "tables::bw bw_at",
+    "tables::pressure pressure_at",
 ];
-const LAWS: &str = "crates/numbers/specs/Congruence.antt";
+const LAWS: &str = "crates/ratios/proofs/Congruence.antt";
 
 const FRACTIONS: [&str; 2] = [
-    "crates/numbers/specs/Ratios.antt",
+    "crates/ratios/specs/Ratios.antt",
     "crates/numbers/specs/Fractions.antt",
 ];
 
@@ -115,7 +115,7 @@ impl<'a> Believed<'a> {
         }
         let fractions = all().filter(|(_, it)| FRACTIONS.contains(&&*it.path));
         let fractions = &believed & &fractions.map(|(at, _)| at).collect();
-        let what = "of it the fractions: `Ratios.antt` and `Fractions.antt` of `numbers`";
+        let what = "of it the fractions: `Ratios.antt` of `ratios`, `Fractions.antt` of `numbers`";
         table.push(row(specs, what, &fractions));
         let is_exported = |it: &&Contract| it.function.starts_with("exports::fuortwem_");
         let exported = contracts.iter().filter(is_exported);
@@ -226,10 +226,10 @@ mod tests {
     use crate::documents::{contracts, definitions::Specs, files};
 
     const JUDGE: &str = "\
-ghost use Rattle·day·specs.specs.Rules.{judged, Asked};
+ghost use Rattle.day.specs.Rules.{judged, Asked};
 pub fn judge(day: Day) -> Verdict
-    requires { ⌜ Asked day ⌝ }
-    ensures { λ r. ⌜ r ≡ judged day ⌝ }
+    requires { Asked day }
+    ensures { result ≡ judged day }
 ";
     const RULES: &str = "\
 -- the verdict

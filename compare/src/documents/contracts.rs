@@ -8,11 +8,9 @@ pub struct Contract {
     /// With its crate and its module: `day::judge::judge`.
     pub function: String,
     pub ensured: BTreeSet<usize>,
-    /// These, and what it requires and keeps up.
+    /// These, and what it requires and shares.
     pub named: BTreeSet<usize>,
 }
-
-const CLAUSES: [&str; 4] = ["requires", "ensures", "invariant", "measure"];
 
 pub fn read(files: &Files, specs: &Specs) -> Vec<Contract> {
     let mut contracts: Vec<Contract> = Vec::new();
@@ -34,14 +32,19 @@ pub fn read(files: &Files, specs: &Specs) -> Vec<Contract> {
                         ..Contract::default()
                     });
                 }
-                [first, "{", ..] if depth == 0 && CLAUSES.contains(&first) => clause = first,
-                _ if depth == 0 => clause = "",
+                _ if depth == 0 => clause = begun(&words),
                 _ => {}
             }
             if let (false, Some(contract)) = (clause.is_empty(), contracts.last_mut()) {
                 let count = |bracket| words.iter().filter(|it| **it == bracket).count();
+                // The clause's own name is none of the definitions'.
+                let first = match depth {
+                    0 => words.iter().position(|it| *it == "{").unwrap_or(0),
+                    _ => 0,
+                };
                 depth = (depth + count("{")).saturating_sub(count("}"));
-                let named = words.iter().filter_map(|it| specs.brought_in(&scope, it));
+                let named = words[first..].iter();
+                let named = named.filter_map(|it| specs.brought_in(&scope, it));
                 let named: BTreeSet<usize> = named.collect();
                 contract.named.extend(&named);
                 if clause == "ensures" {
@@ -51,6 +54,18 @@ pub fn read(files: &Files, specs: &Specs) -> Vec<Contract> {
         }
     }
     contracts
+}
+
+/// The kind of the clause that a line begins: `ensures {`, or with the clause's name `ensures at_most {`. A `*` stands at one
+/// about memory; a `ghost` clause has a value that the others share.
+fn begun<'a>(words: &[&'a str]) -> &'a str {
+    match words {
+        [first, "{", ..] | [first, _, "{", ..] => match first.trim_end_matches('*') {
+            kind @ ("requires" | "ensures" | "ghost") => kind,
+            _ => "",
+        },
+        _ => "",
+    }
 }
 
 /// `day::judge` of crates/day/src/judge.rt, and `day` of its lib.rt.
@@ -68,21 +83,29 @@ mod tests {
     use crate::documents::{definitions::Specs, files};
 
     const JUDGE: &str = "\
-ghost use Rattle·day·specs.specs.Rules.{judged, Asked as Wanted};
-ghost use Rattle·day·specs.specs.Rules as rules;
+ghost use Rattle.day.specs.Rules.{judged, Asked as Wanted};
+ghost use Rattle.day.specs.Rules as rules;
 
 // judged
 pub fn judge(day: Day) -> Verdict
     requires {
-        ⌜ Wanted day ⌝
+        Wanted day
     }
-    ensures { λ r. ⌜ r ≡ judged day ⌝ }
+    ensures { result ≡ judged day }
 {
     other(judged)
 }
 
+#[unsafe(no_mangle)]
 pub extern \"C\" fn exported(day: Day) -> u64
-    ensures { λ r. ⌜ r ≡ rules.number day ⌝ }
+    requires judged { Wanted.now day }
+    ensures judged { result ≡ rules.number day }
+    ensures* Wanted {
+        shared
+    }
+{
+    judged
+}
 ";
 
     #[test]
@@ -104,7 +127,7 @@ pub extern \"C\" fn exported(day: Day) -> u64
             .collect();
         let expected = [
             ("day::judge::judge", "judged", "judgedAsked"),
-            ("day::judge::exported", "number", "number"),
+            ("day::judge::exported", "number", "Askednumber"),
             ("day::plain", "", ""),
         ];
         let expected = expected.map(|(function, one, both)| (function, one.into(), both.into()));

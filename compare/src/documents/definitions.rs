@@ -1,6 +1,6 @@
-//! The definitions of crates/*/specs: where each stands, how long it is, and which others it names. A name is looked up in
-//! its own file, among what that brings in, and behind an alias. A variable that is called as a definition is taken for it,
-//! so what a definition rests on is told rather too long than too short.
+//! The definitions of crates/*/specs, and of the files of proofs/ that these bring in: where each stands, how long it is, and
+//! which others it names. A name is looked up in its own file, among what that brings in, and behind an alias. A variable that
+//! is called as a definition is taken for it, so what a definition rests on is told rather too long than too short.
 use super::Files;
 use std::collections::{BTreeMap, BTreeSet};
 
@@ -21,7 +21,8 @@ pub struct Scope {
     modules: BTreeMap<String, String>,
 }
 
-/// The definitions in the order of their files and lines. A module is called `day/Bound`, by its crate and its file.
+/// The definitions in the order of their files and lines. A module is called `day/Bound`, by its crate and its file, or
+/// `day/proofs/Laws`.
 #[derive(Default)]
 pub struct Specs {
     pub definitions: Vec<Definition>,
@@ -42,15 +43,15 @@ pub fn words(line: &str) -> Vec<&str> {
     words
 }
 
-/// A name, and the parts by which it is used if it is mixfix: `from` and `to` of `from_to_`.
+/// A name, and the parts by which it is used if it is mixfix: `from` and `to` of `from◌to◌`.
 fn forms(name: &str) -> impl Iterator<Item = String> + '_ {
-    let parts = name.split('_').filter(|part| !part.is_empty());
+    let parts = name.split('◌').filter(|part| !part.is_empty());
     parts.chain([name]).map(String::from)
 }
 
 impl Scope {
-    /// Takes in a line such as `pub use Rattle·day.specs.Rules.{numberOf as number, anyOf}` or, with an alias for the whole,
-    /// `ghost use Rattle·sheet.specs.Limits as limits;`.
+    /// Takes in a line such as `pub use Rattle.day.specs.Rules.{number_of as number, any_of}` or, with an alias for the whole,
+    /// `ghost use Rattle.sheet.specs.Limits as limits;`.
     pub fn take(&mut self, line: &str) {
         let (_, brought) = line.split_once("use ").unwrap_or_default();
         let brought = brought.trim_end_matches([';', '}']);
@@ -67,24 +68,42 @@ impl Scope {
     }
 }
 
-/// `Rattle·day.specs.Rules` and, in the crate itself, `Rattle·day·specs.specs.Rules` are `day/Rules`.
+/// `Rattle.day.specs.Rules` is `day/Rules`, and `Rattle.day.proofs.Laws` is `day/proofs/Laws`.
 fn module_used(path: &str) -> String {
-    let path = path.replace("Rattle·", "").replace("·specs", "");
-    path.replacen(".specs.", "/", 1)
+    let path = path.strip_prefix("Rattle.").unwrap_or(path);
+    let path = path.replacen(".specs.", "/", 1);
+    path.replacen(".proofs.", "/proofs/", 1)
 }
 
 fn module_of(path: &str) -> Option<String> {
     let module = path.strip_prefix("crates/")?.strip_suffix(".antt")?;
-    (module.contains("/specs/") && !module.ends_with("/Lib"))
-        .then(|| module.replace("/specs/", "/"))
+    let is_either = module.contains("/specs/") || module.contains("/proofs/");
+    (is_either && !module.ends_with("/Lib")).then(|| module.replacen("/specs/", "/", 1))
+}
+
+fn is_of_proofs(module: &str) -> bool {
+    module.contains("/proofs/")
+}
+
+fn is_use(code: &str) -> bool {
+    code.starts_with("use ") || code.starts_with("pub use ")
 }
 
 impl Specs {
     pub fn read(files: &Files) -> Self {
         let mut specs = Specs::default();
         let mut words = Vec::new();
-        for (path, text) in files {
-            if let Some(module) = module_of(path) {
+        let modules = || files.iter().filter_map(|it| Some((module_of(it.0)?, it)));
+        // What stands in proofs/ is read where a definition may name it as its proof.
+        let mut as_proof = Scope::default();
+        for (_, (_, text)) in modules().filter(|(module, _)| !is_of_proofs(module)) {
+            let lines = text.lines().filter(|line| is_use(line));
+            lines.for_each(|line| as_proof.take(line));
+        }
+        let brought_in = as_proof.names.values().map(|(module, _)| module);
+        let brought_in: BTreeSet<&String> = brought_in.chain(as_proof.modules.values()).collect();
+        for (module, (path, text)) in modules() {
+            if !is_of_proofs(&module) || brought_in.contains(&module) {
                 specs.read_module(module, path, text, &mut words);
             }
         }
@@ -119,7 +138,7 @@ impl Specs {
             if depth == 0 {
                 (margin, around) = (0, Vec::new());
             }
-            if code.starts_with("use ") || code.starts_with("pub use ") {
+            if is_use(code) {
                 scope.take(line);
             } else if ["module", "open"].contains(first) {
                 (margin, around) = (2, [around, words].concat());
@@ -148,11 +167,13 @@ impl Specs {
         self.modules.insert(module, (scope, own));
     }
 
-    /// What a word means in a module: a definition, or that of the type which it constructs.
+    /// What a word means in a module: a definition, or that of the type which it constructs; of `wind.low`, where that is
+    /// none, what `wind` means.
     pub fn find(&self, module: &str, word: &str) -> Option<usize> {
         let (scope, own) = self.modules.get(module)?;
         let found = own.get(word).copied();
-        found.or_else(|| self.brought_in(scope, word))
+        let found = found.or_else(|| self.brought_in(scope, word));
+        found.or_else(|| self.find(module, word.rsplit_once('.')?.0))
     }
 
     /// What it means where nothing is defined, and only this is brought in.
@@ -160,8 +181,12 @@ impl Specs {
         if let Some((module, name)) = scope.names.get(word) {
             return self.find(module, name);
         }
-        let (alias, name) = word.split_once('.')?;
-        self.find(scope.modules.get(alias)?, name)
+        let (of, field) = word.rsplit_once('.')?;
+        let (alias, name) = word.split_once('.').unwrap_or((of, field));
+        match scope.modules.get(alias) {
+            Some(module) => self.find(module, name),
+            None => self.brought_in(scope, of),
+        }
     }
 
     /// The definitions that these rest on, themselves among them, but none of those to pass over, nor what only they need.
@@ -198,12 +223,12 @@ mod tests {
 
     const RANGES: &str = "\
 -- What the file is for.
-use lib.IntN.{ℤ}
+use Rattle.std.specs.Prelude.{ℤ}
 
-infix 45 from_to_
+infix 45 from◌to◌
 -- ---- a heading
 pub data Range : Type 0 where
-  from_to_ : ℕ → ℕ → Range
+  from◌to◌ : ℕ → ℕ → Range
 
 -- one line
 -- and another
@@ -212,7 +237,7 @@ low (from a to b) = a
 
 unfoldable pub span : Range → ℕ
 span r =
-    high r - low r
+    r.high - low r
 
 module _ (R : Ring) where
   open Ring R using (add)
@@ -223,22 +248,35 @@ pub record Ring : Type 0 where
   pub add : ℕ → ℕ → ℕ
 ";
     const LIMITS: &str = "\
-use Rattle·numbers.specs.Ranges.{from_to_, span as width}
-use Rattle·numbers.specs.Ranges as ranges
-pub use Rattle·numbers.specs.Ranges.{low}
+use Rattle.numbers.specs.Ranges.{from◌to◌, span as width}
+use Rattle.numbers.specs.Ranges as ranges
+use Rattle.numbers.proofs.Laws.{held}
+pub use Rattle.numbers.specs.Ranges.{low}
 
 abbrev pub wind : ℕ
 wind = from 0 to 9
 
 abbrev pub wide : ℕ
-wide = width wind
+wide = (width wind).low
+
+abbrev pub sure : ℕ
+sure = wind.high held
+";
+    const LAWS: &str = "\
+use Rattle.numbers.specs.Ranges.{low}
+
+pub held : low ≡ low
+held = refl
 ";
     const RULES: &str = "\
-use Rattle·day·specs.specs.Limits as limits
-use Rattle·day·specs.specs.declared.Day.{wind}
+use Rattle.day.specs.Limits as limits
+use Rattle.day.specs.declared.Day.{wind}
 
 abbrev pub rule : ℕ
 rule = wind + limits.low
+
+abbrev pub field : ℕ
+field = limits.wind.high + rule.low
 ";
 
     fn specs() -> Specs {
@@ -247,6 +285,8 @@ rule = wind + limits.low
             ("crates/day/specs/Lib.antt", "pub mod Limits"),
             ("crates/day/specs/Limits.antt", LIMITS),
             ("crates/day/specs/Rules.antt", RULES),
+            ("crates/numbers/proofs/Laws.antt", LAWS),
+            ("crates/numbers/proofs/Other.antt", "pub other : ℕ"),
             ("crates/numbers/specs/Ranges.antt", RANGES),
         ]))
     }
@@ -260,7 +300,9 @@ rule = wind + limits.low
         assert_eq!(counts("low"), Some((11, 2, 2)));
         assert_eq!(counts("span"), Some((14, 3, 0)));
         assert_eq!(counts("law"), Some((21, 2, 0)));
-        assert_eq!(specs.definitions.len(), 8);
+        // One of them of proofs/, since a file of specs/ brings it in.
+        assert_eq!(counts("held"), Some((3, 2, 0)));
+        assert_eq!(specs.definitions.len(), 11);
     }
 
     #[test]
@@ -280,11 +322,17 @@ rule = wind + limits.low
         assert_eq!(on("day/Limits", "wide", &[span]), ["wind", "wide", "Range"]);
         // Behind an alias what a module hands on; and a name of another kind of module is none of the definitions'.
         assert_eq!(on("day/Rules", "rule", &[]), ["rule", "Range", "low"]);
+        // What stands in front of a field.
+        let field = ["wind", "rule", "field", "Range", "low"];
+        assert_eq!(on("day/Rules", "field", &[]), field);
+        let sure = ["wind", "sure", "held", "Range", "low"];
+        assert_eq!(on("day/Limits", "sure", &[]), sure);
     }
 
     #[test]
     fn words_of_a_line() {
         assert_eq!(words("f (a, b); -- g"), ["f", "(", "a", ",", "b", ")", ";"]);
+        assert_eq!(words("(f x).a y.b"), ["(", "f", "x", ")", ".a", "y.b"]);
         assert_eq!(words("  -- f"), [""; 0]);
     }
 }

@@ -62,11 +62,18 @@ fn read_below(folder: &Path, path: &str, files: &mut Files) -> io::Result<()> {
             // The sample logs are bytes, in which nothing is looked up.
             let text = String::from_utf8_lossy(&fs::read(entry.path())?).into();
             files.insert(inner, text);
-        } else if kind.is_dir() && !is_hidden && name != "target" {
+        } else if kind.is_dir() && !is_hidden && !is_built(path, &name) {
             read_below(&entry.path(), &format!("{inner}/"), files)?;
         }
     }
     Ok(())
+}
+
+/// Whether a build leaves this folder: `target`, or `out` in a crate of crates/.
+fn is_built(path: &str, name: &str) -> bool {
+    let of = path.strip_prefix("crates/");
+    let of = of.and_then(|it| it.strip_suffix('/'));
+    name == "target" || name == "out" && of.is_some_and(|it| !it.contains('/'))
 }
 
 /// The text of a file, and none of one that is not there.
@@ -129,7 +136,23 @@ fn files(files: &[(&str, &str)]) -> Files {
 
 #[cfg(test)]
 mod tests {
-    use super::{files, said};
+    use super::{files, is_built, said};
+
+    #[test]
+    fn what_a_build_leaves_is_no_source() {
+        let built = [
+            ("", "target"),
+            ("compare/", "target"),
+            ("crates/day/", "out"),
+        ];
+        assert!(built.iter().all(|(path, name)| is_built(path, name)));
+        let others = [
+            ("", "out"),
+            ("crates/", "out"),
+            ("crates/day/proofs/", "out"),
+        ];
+        assert!(!others.iter().any(|(path, name)| is_built(path, name)));
+    }
 
     #[test]
     fn a_landing_note_says_how_things_are_in_one_section() {

@@ -177,7 +177,7 @@ mod tests {
             ),
             (
                 "crates/day/proofs/Examples.antt",
-                "data Row : Type 0 where\n  pub set-in : ℕ\n",
+                "data Row : Type 0 where\n  pub set_in : ℕ\n",
             ),
             (
                 "crates/day/specs/Bound.antt",
@@ -233,7 +233,7 @@ mod tests {
         let found = [
             "own",
             "near",
-            "set-in",
+            "set_in",
             "Edges: edges",
             "other",
             "judge::judge",
