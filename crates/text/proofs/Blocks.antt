@@ -10,7 +10,8 @@ use Rattle.answers.specs.Answers.{Role, opens, of_day, beside, role_of, answer_b
 use Rattle.answers.specs.ReadBack.{StandsAt}
 use Rattle.answers.specs.declared.Answer.{Answer}
 use Rattle.answers.proofs.Bytes.{bytes_append}
-use Rattle.totals.specs.Tally.{InMonthOrder}
+use Rattle.totals.specs.Tally.{reached, InMonthOrder}
+use Rattle.totals.specs.Totals.{counted_of}
 use Rattle.text.specs.Report.{about_block, own_from, own, block_lines, lines_of, answer_lines}
 use Rattle.text.specs.Walk.{Holds, BlockOrdered, Stands, open_after, about_open, line_in, printed}
 use Rattle.text.specs.declared.walk.Open.{Open}
@@ -74,7 +75,7 @@ InBlock s at (In b) seen more = Holds s b.from at seen × InMonthOrder 0 (seen +
 
 front_ordered : (k : ℕ) (l rest : List Answer) → InMonthOrder k (l ++ rest) → InMonthOrder k l
 front_ordered k [] rest h = tt
-front_ordered k (a ∷ l) rest h = (h.0, front_ordered _ l rest h.1)
+front_ordered k (a ∷ l) rest h = (h.0, front_ordered (reached k (counted_of a)) l rest h.1)
 
 pub block_stands : (s : List ℕ) (at : ℕ) (block : Open) (seen more : List Answer) → InBlock s at block seen more → Stands s at block seen
 block_stands s at NoBlock seen more w = tt

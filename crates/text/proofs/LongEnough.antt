@@ -29,7 +29,6 @@ use Rattle.text.proofs.DateOrder.{answers_ordered}
 use Rattle.text.proofs.Sizes.{AllSmall, rest_small, rest_fewer, own_small, own_fewer, total_most, lines_most_lem}
 use Rattle.lines.specs.Text.{header}
 use Rattle.lines.proofs.Lengths.{refused_line_most}
-use Rattle.text.specs.declared.Printed.TheVariants.{Written}
 
 -- Buffers of so many bytes are long enough for every log: no log of at most 65,536 bytes has longer answers, and no log a longer report.
 unfoldable pub LongEnough : ℕ → ℕ → Type 0

@@ -7,7 +7,7 @@ use Prim.Native.Nat.{ℕ, ◌+◌, ◌≤◌, ◌<◌}
 use native.Mathlib.Omega.{arith}
 use lib.Dec.{lit≤}
 use lib.ListN.{length, get_or}
-use Rattle.answers.specs.Answers.{Role, beside}
+use Rattle.answers.specs.Answers.{Role}
 use Rattle.answers.specs.declared.Answer.{Answer}
 use Rattle.answers.proofs.Roles.{AllBeside, AllModerate}
 use Rattle.day.specs.Calendar.{is_date}

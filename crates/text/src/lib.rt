@@ -13,8 +13,8 @@ ghost use Rattle.lines.specs.Text.{refused_line};
 ghost use Rattle.text.specs.Walk.{longest_report, Holds, Ordered};
 ghost use Rattle.lines.specs.Written.{AtFront};
 
-use station_log::Outcome;
 use promises::read_log;
+use station_log::Outcome;
 
 mod season;
 mod walk;

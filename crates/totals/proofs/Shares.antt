@@ -10,7 +10,7 @@ use lib.Dec.{eqb}
 use borrow.Author.Tests.{eq-eqb, ne_eqb}
 use Rattle.answers.specs.declared.Answer.{Answer}
 use Rattle.totals.specs.Months.{year_at, month_at, months}
-use Rattle.totals.specs.Tally.{month_number, Comes, InMonthOrder}
+use Rattle.totals.specs.Tally.{month_number, reached, Comes, InMonthOrder}
 use Rattle.totals.specs.Totals.{none, one, plus, counted_of, share_of, total_of, is_month, month_total, season_total}
 use Rattle.totals.specs.declared.tally.Counted.{Counted}
 use Rattle.totals.specs.declared.tally.Counted.TheVariants.{Nothing, Day}
@@ -120,4 +120,4 @@ pub season_is_months : (k : ℕ) (answers : List Answer) → InMonthOrder k answ
 season_is_months k [] h = none_added months
 season_is_months k (a ∷ rest) h =
     added_plus (share_at (counted_of a)) (month_total rest) months
-    ∙ ap₂ plus (shares_added k (counted_of a) h.0) (season_is_months _ rest h.1)
+    ∙ ap₂ plus (shares_added k (counted_of a) h.0) (season_is_months (reached k (counted_of a)) rest h.1)
