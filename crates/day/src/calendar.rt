@@ -8,6 +8,7 @@ pub const FIRST_YEAR: u16 = 1950;
 pub const LAST_YEAR: u16 = 2099;
 
 // The number of days of a year: 366 where 4 divides it, but of the years that 100 divides only those that 400 divides.
+#[tactic(auto, unfolding(crate::specs::Calendar::year_length))]
 pub fn year_length(year: u16) -> u16
     ensures { result ≡ year_length year }
 {
@@ -24,6 +25,7 @@ pub fn year_length(year: u16) -> u16
 }
 
 // Whether the calendar has day d of the year.
+#[tactic(auto, unfolding(crate::specs::Calendar::is_date))]
 pub fn is_date(year: u16, d: u16) -> bool
     ensures { result ≡ is_date year d }
 {

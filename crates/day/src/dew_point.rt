@@ -17,6 +17,7 @@ fn lacks_dew_point(day: Day) -> bool
 }
 
 // The dew point, or the minimum in its place.
+#[tactic(auto, unfolding(crate::specs::Judgement::as_judged))]
 fn dew_point(day: Day) -> i16
     ensures { result ≡ (as_judged day).dewpoint }
 {
@@ -27,6 +28,7 @@ fn dew_point(day: Day) -> i16
 }
 
 // The day as it is judged.
+#[tactic(auto, unfolding(crate::specs::Judgement::as_judged))]
 pub fn as_judged(day: Day) -> Day
     ensures { result ≡ as_judged day }
 {
@@ -36,6 +38,7 @@ pub fn as_judged(day: Day) -> Day
 }
 
 // The figure of an answered day, with its mark if it has one.
+#[tactic(auto, unfolding(crate::specs::Judgement::with_mark))]
 pub fn with_mark(day: Day, n: u32) -> Verdict
     ensures { result ≡ with_mark day n }
 {

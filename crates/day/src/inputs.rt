@@ -34,6 +34,7 @@ fn wide_entry(x: u32) -> i64
 }
 
 // The readings as the sheet takes them.
+#[tactic(auto, unfolding(crate::specs::Judgement::readings_of))]
 pub fn readings_of(day: Day) -> Readings
     ensures { result ≡ readings_of day }
 {
@@ -77,6 +78,7 @@ pub fn entries_at(
 }
 
 // The clear-day radiation Q.
+#[tactic(auto, unfolding(crate::specs::Judgement::clear_of))]
 pub fn clear_of(station: Station, day: Day) -> i64
     requires { (1 ≤ day.d) × (day.d ≤ 366) × (50 ≤ station.minimum) × (station.minimum ≤ 200) }
     ensures { (result ≡ clear_of station day) × InRange quantities.clear_day result }

@@ -110,6 +110,7 @@ fn above_clear(station: Station, day: Day) -> bool
 }
 
 // The first of 3, 6, 7, 8, 9, 10 that holds, or that none does.
+#[tactic(auto, unfolding(crate::specs::Judgement::standing_of, crate::specs::Judgement::holds))]
 pub fn standing(station: Station, day: Day, earlier: Earlier) -> Standing
     ensures { result ≡ standing_of station day earlier }
 {
