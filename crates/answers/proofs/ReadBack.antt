@@ -7,7 +7,7 @@ use mathlib.Core.List.{List, ◌++◌}
 use Prim.Native.Nat.{ℕ, ◌+◌, ◌*◌, ◌-◌, ◌≤◌}
 use native.Mathlib.Omega.{arith}
 use lib.Dec.{eqb}
-use lib.ListN.{length, get_or, drop, length-append, length-drop}
+use lib.ListN.{length, get_or, length-append, length-drop}
 use lib.Seq.{get_or-drop}
 use Rattle.day.specs.Rules.{number_of}
 use Rattle.day.specs.declared.Code.{Code}

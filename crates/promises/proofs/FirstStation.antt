@@ -10,7 +10,6 @@ use Rattle.day.specs.Rules.{bad_station}
 use Rattle.day.specs.declared.Station.{Station}
 use Rattle.records.specs.Record.{record_at, found_in}
 use Rattle.records.specs.declared.Record.{Record}
-use Rattle.records.specs.declared.Record.TheVariants as Record
 use Rattle.records.proofs.Alike.{Alike}
 use Rattle.records.proofs.Part.{Part, rest_part}
 use Rattle.station_log.specs.Log.{Past, block, opened, station, fault, enters, goes_to, step_of, Reading, refused, prepend, onward, read_from}

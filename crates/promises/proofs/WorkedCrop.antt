@@ -10,7 +10,6 @@ use lib.Dec.{ltb}
 use lib.IntN.{pos}
 use lib.ListN.{length, replicate}
 use Rattle.crops.specs.Crop.{bad_crop, in_season, above, crop_figure}
-use Rattle.crops.specs.declared.Crop.{Crop}
 use Rattle.day.specs.Calendar.{year_length, is_date}
 use Rattle.day.specs.Judgement.{holds, standing_of, lacks_dew_point, as_judged, judged, Answered}
 use Rattle.day.specs.declared.Earlier.{Earlier}

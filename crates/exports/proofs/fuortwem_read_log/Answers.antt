@@ -1,5 +1,5 @@
 -- `exports::fuortwem_read_log` meets its contract: no length or offset needs more than the low half. Assumes nothing.
-use mathlib.Core.Path.{sym, ap, ◌∙◌}
+use mathlib.Core.Path.{ap, ◌∙◌}
 use Rattle.exports.specs.Told.{outcome_said}
 use Rattle.exports.proofs.Returned.{written_small, refused_small, refused_said, length_said}
 use Rattle.exports.proofs.fuortwem_read_log.Goals as goal
