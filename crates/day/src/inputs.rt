@@ -78,7 +78,6 @@ pub fn entries_at(
 }
 
 // The clear-day radiation Q.
-#[tactic(auto, unfolding(crate::specs::Judgement::clear_of))]
 pub fn clear_of(station: Station, day: Day) -> i64
     requires { (1 ≤ day.d) × (day.d ≤ 366) × (50 ≤ station.minimum) × (station.minimum ≤ 200) }
     ensures { (result ≡ clear_of station day) × InRange quantities.clear_day result }
