@@ -10,4 +10,4 @@ use Rattle.day.proofs.inputs.pressure_at.Goals as goal
 pub returns : goal.returns
 returns c =
     let entry = c.pressure.ensures in
-    returned (said (c.wide_entry.ensures ∙ ap pos entry.is_value) (subst (λ (n : ℕ). InRange quantities.pressure (pos n)) entry.is_value entry.in_range_lem)) tt
+    returned (said (c.wide_entry.ensures ∙ ap pos entry.is_value) (subst (λ (n : ℕ). InRange quantities.pressure (pos n)) entry.is_value entry.in_range)) tt
