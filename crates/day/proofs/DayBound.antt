@@ -3,20 +3,16 @@
 use mathlib.Core.Path.{◌≡◌, refl, sym, ◌∙◌, ap, subst}
 use mathlib.Core.Bool.{false}
 use mathlib.Core.List.{List, [], map}
-use Prim.Native.Nat.{ℕ, suc, ◌≤◌, zero-le, suc-le-suc}
-use native.Mathlib.Omega.{arith}
+use Prim.Native.Nat.{ℕ}
 use lib.IntN.{ℤ, pos}
-use lib.ListN.{length}
 use Rattle.ratios.specs.Ratios.{◌over◌}
 use Rattle.numbers.specs.Fractions.{from_ℤ, ◌/ℚ◌, ◌-ℚ◌, ◌*ℚ◌, ◌≤ℚ◌, abs_ℚ, ℚ, fraction}
 use Rattle.numbers.proofs.Order.{≤ℚ_ratio, ≤ℚ_trans}
-use Rattle.sheet.specs.Quantities as quantities
 use Rattle.sheet.specs.Accepted.{EntriesInRange}
 use Rattle.equation.specs.Equation.{value, tenths}
 use Rattle.equation.proofs.FigureNear as nearness
 use Rattle.equation.proofs.FigureNear.{Constants, ConstantsInRange, AllTemperatures, none, more, Accepted, bound, FigureNear}
 use Rattle.equation.proofs.Nearness.{figure_near}
-use Rattle.day.specs.Rules.{mean_fault}
 use Rattle.day.specs.Judgement.{readings_of, entries_of, clear_of, with_mean, means_of, earlier_of, figure_of, holds, Answered, as_judged, with_mark, judged}
 use Rattle.day.specs.Bound.{if_present, means_present, inputs_of, Within, WithinBound, SignedConstants, FigureOwed, JudgesWithinBound}
 use Rattle.day.specs.declared.Station.{Station}
@@ -27,26 +23,14 @@ use Rattle.day.specs.declared.Earlier.{Earlier}
 use Rattle.day.specs.declared.Refusal.{Refusal}
 use Rattle.day.specs.declared.Refusal.TheVariants.{StationField, BadDate, OutOfRange, OutOfOrder, AboveClear}
 use Rattle.day.proofs.Standings.{answered_figure}
-use Rattle.day.proofs.Tests.{passed}
 use Rattle.day.proofs.Passed as passed-tests
+use Rattle.day.proofs.EarlierMeans.{few_means, all_temperatures}
 
 -- the sharper one that is proved of every answered day: 515/10,000,000 of an inch
 abbrev pub proved_bound : ℚ
 proved_bound = fraction bound
 
 -- ---- the earlier means that are present
-
-with_mean_lem : (m : Mean) {fs : List ℤ} → mean_fault m ≡ false → AllTemperatures fs → AllTemperatures (with_mean m fs)
-with_mean_lem (Present f) e all = more (passed quantities.temperature e) all
-with_mean_lem Absent e all = all
-
-one_more : (m : Mean) (fs : List ℤ) (n : ℕ) → length fs ≤ n → length (with_mean m fs) ≤ suc n
-one_more (Present f) fs n h = suc-le-suc h
-one_more Absent fs n h = omega arith
-
-few_means : (earlier : Earlier) → length (means_of earlier) ≤ 3
-unfolding means_of
-few_means earlier = one_more earlier.one _ 2 (one_more earlier.two _ 1 (one_more earlier.three [] 0 zero-le))
 
 -- the equation is fed the means that the sheet is worked from
 if_present_lem : (m : Mean) (fs : List ℤ) → if_present m (map tenths fs) ≡ map tenths (with_mean m fs)
@@ -103,11 +87,7 @@ module _ (st : Station) (day : Day) (earlier : Earlier) (constants : SignedConst
       (passed-tests.day_high st day earlier (none_holds BadDate)) (passed-tests.elevation_high st day earlier (none_holds StationField))
 
   means_in : AllTemperatures (means_of earlier)
-  unfolding means_of
-  means_in =
-      with_mean_lem earlier.one (passed-tests.one_passed st day earlier (none_holds OutOfRange))
-      (with_mean_lem earlier.two (passed-tests.two_passed st day earlier (none_holds OutOfRange))
-      (with_mean_lem earlier.three (passed-tests.three_passed st day earlier (none_holds OutOfRange)) none))
+  means_in = all_temperatures st day earlier (none_holds OutOfRange)
 
   pub accepted : Accepted (readings_of day) (entries_of st day) (means_of earlier) (constants_of st day)
   unfolding holds readings_of clear_of

@@ -4,12 +4,14 @@ pub mod Dates
 pub mod Passed
 pub mod Standings
 pub mod Marks
+pub mod EarlierMeans
 pub mod DayBound
 pub mod FigureLimit
 pub mod FigureWith
 pub mod Edges
 pub mod Examples
 pub mod WithoutSubstitute
+pub mod DaySince
 pub mod LeastValues
 pub mod WithEleven
 pub mod Idle

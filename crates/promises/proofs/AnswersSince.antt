@@ -19,7 +19,7 @@ use Rattle.day.specs.declared.Refusal.TheVariants.{BadDate, Missing}
 use Rattle.day.specs.declared.Station.{Station}
 use Rattle.day.specs.declared.Verdict.{Verdict}
 use Rattle.day.specs.declared.Verdict.TheVariants as verdict
-use Rattle.day.proofs.WithoutSubstitute as day-since
+use Rattle.day.proofs.DaySince as day-since
 use Rattle.day.proofs.WithoutSubstitute.{judged_strictly, with_minimum, estimated}
 use Rattle.station_log.specs.History.{good_date, earlier_means, verdict_of}
 use Rattle.station_log.specs.Log.{BlockRead, Entry, day, crop_answers, day_answers, answers_for, answers_of}

@@ -20,7 +20,8 @@ use Rattle.day.specs.declared.Station.{Station}
 use Rattle.day.specs.declared.Verdict.{Verdict}
 use Rattle.day.specs.declared.Verdict.TheVariants.{Figure, Refused, Estimated}
 use Rattle.day.proofs.Examples.{days, estimates}
-use Rattle.day.proofs.WithoutSubstitute.{judged_strictly, since}
+use Rattle.day.proofs.WithoutSubstitute.{judged_strictly}
+use Rattle.day.proofs.DaySince.{since}
 use Rattle.answers.specs.Answers.{day_answer, bytes_of}
 use Rattle.answers.specs.declared.Answer.{Answer}
 use Rattle.answers.specs.declared.Answer.TheVariants as answer
