@@ -12,8 +12,10 @@ pub mod WorkedEstimate
 pub mod Idle
 pub mod TwoParts
 pub mod WithoutKind
+pub mod AsWithoutKind
 pub mod FirstStation
 pub mod LimitedStations
+pub mod SameAnswers
 pub mod WithoutSubstitute
 pub mod AnswersSince
 pub mod LogSince
