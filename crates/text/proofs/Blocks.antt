@@ -14,8 +14,8 @@ use Rattle.totals.specs.Tally.{reached, InMonthOrder}
 use Rattle.totals.specs.Totals.{counted_of}
 use Rattle.text.specs.Report.{about_block, own_from, own, block_lines, lines_of, answer_lines}
 use Rattle.text.specs.Walk.{Holds, BlockOrdered, Stands, open_after, about_open, line_in, printed}
-use Rattle.text.specs.declared.walk.Open.{Open}
-use Rattle.text.specs.declared.walk.Open.TheVariants.{NoBlock, In}
+use Rattle.text.specs.declared.answer_walk.Open.{Open}
+use Rattle.text.specs.declared.answer_walk.Open.TheVariants.{NoBlock, In}
 
 abbrev pub seen_after : List Answer → Role → Answer → List Answer
 seen_after seen (opens code) a = []

@@ -11,8 +11,8 @@ use Rattle.answers.specs.declared.Answer.{Answer}
 use Rattle.text.specs.Report.{own, lines_of}
 use Rattle.text.specs.Walk.{Holds, Ordered, Room, Laid, Stands, open_after, about_open, printed}
 use Rattle.text.proofs.Blocks.{seen_after, lines_from, prints, prints_last, InBlock, block_stands, next_in_block}
-use Rattle.text.specs.declared.walk.Open.{Open}
-use Rattle.text.specs.declared.walk.Open.TheVariants.{NoBlock}
+use Rattle.text.specs.declared.answer_walk.Open.{Open}
+use Rattle.text.specs.declared.answer_walk.Open.TheVariants.{NoBlock}
 use Rattle.text.proofs.Going.{Going, none_gone, stands_as, room, one_more, room_last, all_laid}
 
 pub record Walked (s : List ℕ) (n : ℕ) (writes : Bool) (before : List ℕ) (start : ℕ) (text : List ℕ) (at to : ℕ) (block : Open) (all : List Answer) : Type 0 where

@@ -5,8 +5,8 @@ use Rattle.answers.specs.Overwriting.{laid_if}
 use Rattle.answers.specs.declared.Answer.{Answer}
 use Rattle.text.specs.Report.{line_of, about_block, own}
 use Rattle.totals.specs.Tally.{InMonthOrder}
-use Rattle.text.specs.declared.walk.Open.{Open}
-use Rattle.text.specs.declared.walk.Open.TheVariants.{NoBlock, In}
+use Rattle.text.specs.declared.answer_walk.Open.{Open}
+use Rattle.text.specs.declared.answer_walk.Open.TheVariants.{NoBlock, In}
 
 -- the bytes from the index `from` up to n are those of the answers
 pub record Holds (s : List ℕ) (from n : ℕ) (answers : List Answer) : Type 0 where

@@ -16,8 +16,8 @@ ghost use Rattle.lines.specs.Written.{AtFront};
 use promises::read_log;
 use station_log::Outcome;
 
+mod answer_walk;
 mod season;
-mod walk;
 
 // The length of the text written, or the length that a text buffer needs.
 #[derive(Clone, Copy)]
@@ -52,12 +52,12 @@ fn print_answers(answers: &[u8], n: usize, text: &mut [u8]) -> Printed
 {
     let mut line = [0u8; 64];
     let above = lines::single::header(&mut line);
-    let size = walk::put_lines(answers, n, text, above, false);
+    let size = answer_walk::put_lines(answers, n, text, above, false);
     if text.len() < size {
         return Printed::Needs(size);
     }
     let start = lines::whole::put_header(text, 0);
-    Printed::Written(walk::put_lines(answers, n, text, start, true))
+    Printed::Written(answer_walk::put_lines(answers, n, text, start, true))
 }
 
 // Reads a log and writes its report. The answers are left as `read_log` leaves them.

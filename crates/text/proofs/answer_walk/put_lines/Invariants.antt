@@ -1,10 +1,10 @@
--- The invariant of `text::walk::put_lines` is `Walked`, for whatever answers the bytes hold; the measure is what is left of the bytes. Assumes nothing.
+-- The invariant of `text::answer_walk::put_lines` is `Walked`, for whatever answers the bytes hold; the measure is what is left of the bytes. Assumes nothing.
 use mathlib.Core.List.{List}
 use Prim.Native.Nat.{◌-◌, ◌≤◌}
 use Rattle.answers.specs.declared.Answer.{Answer}
 use Rattle.text.specs.Walk.{Holds, Ordered}
 use Rattle.text.proofs.Walked.{Walked}
-use Rattle.text.proofs.walk.put_lines.Given as goal
+use Rattle.text.proofs.answer_walk.put_lines.Given as goal
 
 abbrev pub invariant-loop-at : goal.invariant-loop-at
 invariant-loop-at l =

@@ -1,11 +1,11 @@
--- `text::walk::put_lines` meets its contract. Assumes nothing.
+-- `text::answer_walk::put_lines` meets its contract. Assumes nothing.
 use mathlib.Core.Path.{◌≡◌, subst}
 use Prim.Native.Nat.{ℕ}
 use native.Mathlib.Omega.{arith}
 use Rattle.text.specs.Walk.{Stands}
 use Rattle.text.proofs.Going.{stands_there, inside}
 use Rattle.text.proofs.Walked.{none_walked, stands, line_room_lem, one_walked, end_room, all_walked}
-use Rattle.text.proofs.walk.put_lines.Goals as goal
+use Rattle.text.proofs.answer_walk.put_lines.Goals as goal
 
 pub loop-at-init : goal.loop-at-init
 loop-at-init c = (omega arith, λ all h ordered. none_walked h ordered)
