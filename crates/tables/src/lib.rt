@@ -1,6 +1,6 @@
 // The five constant tables of the step sheet: four by the day of the year, the pressure by the height in metres.
-// A constant array is copied to the stack where it is read. So a table is handed out whole, once, with the rule of all its entries; who has it lends
-// it to the lookups, and a lookup in a lent table copies nothing.
+// A constant array is copied to the stack where a function hands it over. So a table is handed out whole, once, with the rule of all its entries;
+// who has it lends it to the lookups, and a lookup in a lent table copies nothing.
 #![tactic(auto)]
 
 ghost use Rattle.std.specs.Prelude.{◌≤◌};

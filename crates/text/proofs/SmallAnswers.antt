@@ -83,7 +83,7 @@ module _ (s : List ℕ) (bytes : AreBytes s) where
         omega (
           arith,
           day_line_size code y.year y.d v,
-          padded_most 3 4 y.year (omega arith) (omega (arith, (date_tells y.year y.d date).last_year_lem)),
+          padded_most 3 4 y.year (omega arith) (omega (arith, (date_tells y.year y.d date).last_year)),
           padded_most 2 3 y.d (omega arith) (omega (arith, day_high x y (earlier_means h y) (ap not date))),
         )
 
