@@ -5,6 +5,7 @@ use mathlib.Core.Bool.{false}
 use mathlib.Core.List.{List, [], map}
 use Prim.Native.Nat.{ℕ}
 use lib.IntN.{ℤ, pos}
+use Rattle.std.specs.Prelude.{Option, Some, None}
 use Rattle.ratios.specs.Ratios.{◌over◌}
 use Rattle.numbers.specs.Fractions.{from_ℤ, ◌/ℚ◌, ◌-ℚ◌, ◌*ℚ◌, ◌≤ℚ◌, abs_ℚ, ℚ, fraction}
 use Rattle.numbers.proofs.Order.{≤ℚ_ratio, ≤ℚ_trans}
@@ -17,8 +18,6 @@ use Rattle.day.specs.Judgement.{readings_of, entries_of, clear_of, with_mean, me
 use Rattle.day.specs.Bound.{if_present, means_present, inputs_of, Within, WithinBound, SignedConstants, FigureOwed, JudgesWithinBound}
 use Rattle.day.specs.declared.Station.{Station}
 use Rattle.day.specs.declared.Day.{Day}
-use Rattle.day.specs.declared.Mean.{Mean}
-use Rattle.day.specs.declared.Mean.TheVariants.{Present, Absent}
 use Rattle.day.specs.declared.Earlier.{Earlier}
 use Rattle.day.specs.declared.Refusal.{Refusal}
 use Rattle.day.specs.declared.Refusal.TheVariants.{StationField, BadDate, OutOfRange, OutOfOrder, AboveClear}
@@ -33,9 +32,9 @@ proved_bound = fraction bound
 -- ---- the earlier means that are present
 
 -- the equation is fed the means that the sheet is worked from
-if_present_lem : (m : Mean) (fs : List ℤ) → if_present m (map tenths fs) ≡ map tenths (with_mean m fs)
-if_present_lem (Present f) fs = refl
-if_present_lem Absent fs = refl
+if_present_lem : (m : Option ℤ) (fs : List ℤ) → if_present m (map tenths fs) ≡ map tenths (with_mean m fs)
+if_present_lem (Some f) fs = refl
+if_present_lem None fs = refl
 
 same_means : (earlier : Earlier) → means_present earlier ≡ map tenths (means_of earlier)
 unfolding means_of

@@ -5,6 +5,7 @@ use mathlib.Core.List.{[], ◌∷◌}
 use mathlib.Core.Logic.{◌≢◌, ◌⊎◌, inl, inr, ⊎_elim}
 use mathlib.Core.Path.{◌≡◌, refl, sym, ap, subst, ◌∙◌}
 use lib.Dec.{T}
+use Rattle.std.specs.Prelude.{Result, Ok, Err}
 use Rattle.day.specs.Calendar.{is_date}
 use Rattle.day.specs.Rules.{any_of, bad_station, is_missing, other_marks}
 use Rattle.day.specs.Judgement.{figure_of, holds, first_of, standing_of, lacks_dew_point, with_dew_point, as_judged, with_mark, verdict_with, judged}
@@ -13,8 +14,6 @@ use Rattle.day.specs.declared.Day.{Day}
 use Rattle.day.specs.declared.Earlier.{Earlier}
 use Rattle.day.specs.declared.Refusal.{Refusal}
 use Rattle.day.specs.declared.Refusal.TheVariants.{StationField, BadDate, Missing, OutOfRange, OutOfOrder, AboveClear}
-use Rattle.day.specs.declared.Standing.{Standing}
-use Rattle.day.specs.declared.Standing.TheVariants as standing
 use Rattle.day.specs.declared.Verdict.{Verdict}
 use Rattle.day.specs.declared.Verdict.TheVariants.{Figure, Refused, Estimated}
 use Rattle.day.proofs.WithoutSubstitute.{judged_strictly, with_minimum, estimated, Since}
@@ -28,9 +27,9 @@ judged_with x e = ap (λ (lacks : Bool). with_dew_point x (cond lacks x.minimum 
 -- ---- the tests before 7, and 7 itself
 
 -- 3 and 6 are the same with any dew point: where 7 held it was the first, or what was first still is
-earlier_tests : (a b m : Bool) (s t : Standing) (v w : Verdict) → m ≡ true →
-    let before = cond a (standing.Refused StationField) (cond b (standing.Refused BadDate) (cond m (standing.Refused Missing) s)) in
-    let after = cond a (standing.Refused StationField) (cond b (standing.Refused BadDate) t) in
+earlier_tests : (a b m : Bool) (s t : Result (Unit {0}) Refusal) (v w : Verdict) → m ≡ true →
+    let before = cond a (Err StationField) (cond b (Err BadDate) (cond m (Err Missing) s)) in
+    let after = cond a (Err StationField) (cond b (Err BadDate) t) in
     (verdict_with before v ≡ Refused Missing) ⊎ ((r : Refusal) × (verdict_with before v ≡ Refused r) × (verdict_with after w ≡ Refused r))
 earlier_tests true b m s t v w e = inr (StationField, refl, refl)
 earlier_tests false true m s t v w e = inr (BadDate, refl, refl)
@@ -59,9 +58,9 @@ module _ (st : Station) (x : Day) (earlier : Earlier) where
       (λ i. verdict_with (standing_of st (same i) earlier) (cond (e i) (Estimated (figure_of st (same i) earlier)) (Figure (figure_of st (same i) earlier))))
       ∙ marked (standing_of st (with_minimum x) earlier)
     where
-      marked : (s : Standing) → verdict_with s (Estimated (figure_of st (with_minimum x) earlier)) ≡ estimated (verdict_with s (Figure (figure_of st (with_minimum x) earlier)))
-      marked (standing.Refused r) = refl
-      marked standing.Answered = refl
+      marked : (s : Result (Unit {0}) Refusal) → verdict_with s (Estimated (figure_of st (with_minimum x) earlier)) ≡ estimated (verdict_with s (Figure (figure_of st (with_minimum x) earlier)))
+      marked (Err r) = refl
+      marked (Ok done) = refl
 
   missing_held : lacks_dew_point x ≡ true → holds Missing st x earlier ≡ true
   unfolding holds

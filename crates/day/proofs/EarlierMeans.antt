@@ -6,26 +6,25 @@ use Prim.Native.Nat.{ℕ, suc, ◌≤◌, zero-le, suc-le-suc}
 use native.Mathlib.Omega.{arith}
 use lib.IntN.{ℤ}
 use lib.ListN.{length}
+use Rattle.std.specs.Prelude.{Option, Some, None}
 use Rattle.sheet.specs.Quantities as quantities
 use Rattle.equation.proofs.FigureNear.{AllTemperatures, none, more}
 use Rattle.day.specs.Rules.{mean_fault}
 use Rattle.day.specs.Judgement.{with_mean, means_of, holds}
 use Rattle.day.specs.declared.Station.{Station}
 use Rattle.day.specs.declared.Day.{Day}
-use Rattle.day.specs.declared.Mean.{Mean}
-use Rattle.day.specs.declared.Mean.TheVariants.{Present, Absent}
 use Rattle.day.specs.declared.Earlier.{Earlier}
 use Rattle.day.specs.declared.Refusal.TheVariants.{OutOfRange}
 use Rattle.day.proofs.Tests.{passed}
 use Rattle.day.proofs.Passed as passed-tests
 
-with_mean_lem : (m : Mean) {fs : List ℤ} → mean_fault m ≡ false → AllTemperatures fs → AllTemperatures (with_mean m fs)
-with_mean_lem (Present f) e all = more (passed quantities.temperature e) all
-with_mean_lem Absent e all = all
+with_mean_lem : (m : Option ℤ) {fs : List ℤ} → mean_fault m ≡ false → AllTemperatures fs → AllTemperatures (with_mean m fs)
+with_mean_lem (Some f) e all = more (passed quantities.temperature e) all
+with_mean_lem None e all = all
 
-one_more : (m : Mean) (fs : List ℤ) (n : ℕ) → length fs ≤ n → length (with_mean m fs) ≤ suc n
-one_more (Present f) fs n h = suc-le-suc h
-one_more Absent fs n h = omega arith
+one_more : (m : Option ℤ) (fs : List ℤ) (n : ℕ) → length fs ≤ n → length (with_mean m fs) ≤ suc n
+one_more (Some f) fs n h = suc-le-suc h
+one_more None fs n h = omega arith
 
 pub few_means : (earlier : Earlier) → length (means_of earlier) ≤ 3
 unfolding means_of

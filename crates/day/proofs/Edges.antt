@@ -4,6 +4,7 @@ use mathlib.Core.Path.{◌≡◌, refl}
 use mathlib.Core.List.{List, [], ◌∷◌, map}
 use Prim.Native.Nat.{ℕ}
 use lib.IntN.{ℤ, pos, negsuc}
+use Rattle.std.specs.Prelude.{Option, Some, None, Result, Ok, Err}
 use Rattle.sheet.specs.Limits.{routine_limit}
 use Rattle.sheet.specs.StepSheet as sheet
 use Rattle.day.specs.Calendar.{year_length, is_date}
@@ -12,18 +13,15 @@ use Rattle.day.specs.Judgement.{clear_of, holds, standing_of, lacks_dew_point, a
 use Rattle.day.specs.declared.Code.{Code}
 use Rattle.day.specs.declared.Station.{Station}
 use Rattle.day.specs.declared.Day.{Day}
-use Rattle.day.specs.declared.Mean.{Mean}
-use Rattle.day.specs.declared.Mean.TheVariants.{Present, Absent}
 use Rattle.day.specs.declared.Earlier.{Earlier}
-use Rattle.day.specs.declared.Standing.{Standing}
-use Rattle.day.specs.declared.Standing.TheVariants as standing
+use Rattle.day.specs.declared.Refusal.{Refusal}
 
 -- ---- the number that a day is refused with
 
 -- the number of the refusal, 0 for an answered day
-abbrev number_in : Standing → ℕ
-number_in (standing.Refused r) = number_of r
-number_in standing.Answered = 0
+abbrev number_in : Result (Unit {0}) Refusal → ℕ
+number_in (Err r) = number_of r
+number_in (Ok done) = 0
 
 -- of the day as it is judged
 abbrev refused_with : Station → Day → Earlier → ℕ
@@ -117,19 +115,19 @@ with_wind z = reading (pos 900) (pos 550) (pos 720) (pos 500) (pos 7_000) z
 abbrev without_dewpoint : ℤ → ℤ → ℤ → ℤ → ℤ → Day
 without_dewpoint maximum minimum mean radiation wind = reading maximum minimum mean (negsuc 32_767) radiation wind
 
-abbrev means : Mean → Mean → Mean → Earlier
+abbrev means : Option ℤ → Option ℤ → Option ℤ → Earlier
 means one two three = record { one = one; two = two; three = three }
 
 -- ---- the table
 
 -- the number for a station, for a day at LIDW, and for earlier means there
 abbrev at_station : Station → ℕ
-at_station st = refused_with st (dated 2008 180) (means Absent Absent Absent)
+at_station st = refused_with st (dated 2008 180) (means None None None)
 
 abbrev on_day : Day → ℕ
-on_day day = refused_with lidw day (means Absent Absent Absent)
+on_day day = refused_with lidw day (means None None None)
 
-abbrev after : Mean → Mean → Mean → ℕ
+abbrev after : Option ℤ → Option ℤ → Option ℤ → ℕ
 after one two three = refused_with lidw (dated 2008 180) (means one two three)
 
 infix 2 ◌gives◌
@@ -219,15 +217,15 @@ table =
     ∷ (on_day (with_wind (negsuc 0)) gives 8)
     ∷ (on_day (with_wind (pos 10_000)) gives 8)
     -- 8: an earlier mean, for which -32,768 is no mark
-    ∷ (after (Present (negsuc 93)) Absent Absent gives 0)
-    ∷ (after (Present (pos 1_291)) Absent Absent gives 0)
-    ∷ (after (Present (negsuc 94)) Absent Absent gives 8)
-    ∷ (after (Present (pos 1_292)) Absent Absent gives 8)
-    ∷ (after (Present (negsuc 32_767)) Absent Absent gives 8)
-    ∷ (after Absent (Present (negsuc 93)) Absent gives 0)
-    ∷ (after Absent (Present (negsuc 94)) Absent gives 8)
-    ∷ (after Absent Absent (Present (negsuc 93)) gives 0)
-    ∷ (after Absent Absent (Present (negsuc 94)) gives 8)
+    ∷ (after (Some (negsuc 93)) None None gives 0)
+    ∷ (after (Some (pos 1_291)) None None gives 0)
+    ∷ (after (Some (negsuc 94)) None None gives 8)
+    ∷ (after (Some (pos 1_292)) None None gives 8)
+    ∷ (after (Some (negsuc 32_767)) None None gives 8)
+    ∷ (after None (Some (negsuc 93)) None gives 0)
+    ∷ (after None (Some (negsuc 94)) None gives 8)
+    ∷ (after None None (Some (negsuc 93)) gives 0)
+    ∷ (after None None (Some (negsuc 94)) gives 8)
     -- 9: the minimum and the mean, the mean and the maximum, the dew point and the maximum
     ∷ (on_day (with_minimum (pos 720)) gives 0)
     ∷ (on_day (with_minimum (pos 721)) gives 9)
@@ -236,18 +234,18 @@ table =
     ∷ (on_day (with_dewpoint (pos 900)) gives 0)
     ∷ (on_day (with_dewpoint (pos 901)) gives 9)
     -- 10: twice a clear day of 500 cal/cm²/d
-    ∷ (refused_with even (with_radiation (pos 10_000)) (means Absent Absent Absent) gives 0)
-    ∷ (refused_with even (with_radiation (pos 10_001)) (means Absent Absent Absent) gives 10)
+    ∷ (refused_with even (with_radiation (pos 10_000)) (means None None None) gives 0)
+    ∷ (refused_with even (with_radiation (pos 10_001)) (means None None None) gives 10)
     -- 10: twice the minimum, where that stands for the clear day
-    ∷ (refused_with dim (with_radiation (pos 2_000)) (means Absent Absent Absent) gives 0)
-    ∷ (refused_with dim (with_radiation (pos 2_001)) (means Absent Absent Absent) gives 10)
+    ∷ (refused_with dim (with_radiation (pos 2_000)) (means None None None) gives 0)
+    ∷ (refused_with dim (with_radiation (pos 2_001)) (means None None None) gives 10)
     -- where two hold, the first in order: 3 and 6, 6 and 7, 6 and 8, 7 and 8, 8 and 9, 9 and 10
-    ∷ (refused_with (station 64 100 497) (dated 2100 1) (means Absent Absent Absent) gives 3)
+    ∷ (refused_with (station 64 100 497) (dated 2100 1) (means None None None) gives 3)
     ∷ (on_day (windless 2100 1) gives 6)
-    ∷ (refused_with lidw (dated 2100 1) (means (Present (negsuc 94)) Absent Absent) gives 6)
+    ∷ (refused_with lidw (dated 2100 1) (means (Some (negsuc 94)) None None) gives 6)
     ∷ (on_day (reading (negsuc 32_767) (pos 550) (pos 720) (pos 500) (pos 7_000) (negsuc 0)) gives 7)
     ∷ (on_day (with_minimum (pos 1_292)) gives 8)
-    ∷ (refused_with even (reading (pos 900) (pos 721) (pos 720) (pos 500) (pos 10_001) (pos 1_000)) (means Absent Absent Absent) gives 9)
+    ∷ (refused_with even (reading (pos 900) (pos 721) (pos 720) (pos 500) (pos 10_001) (pos 1_000)) (means None None None) gives 9)
     ∷ []
 
 edges : map given table ≡ map written table

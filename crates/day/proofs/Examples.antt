@@ -7,6 +7,7 @@ use mathlib.Core.List.{List, [], ◌∷◌, map}
 use Prim.Native.Nat.{ℕ}
 use lib.Dec.{lit<, lit≤}
 use lib.IntN.{ℤ, pos, negsuc, nat_abs, ◌-ℤ◌, ◌*ℤ◌}
+use Rattle.std.specs.Prelude.{Some, None, Ok}
 use Rattle.numbers.specs.Whole.{◌÷↓◌, whole_root}
 use Rattle.numbers.specs.Root.{WholeRoot}
 use Rattle.numbers.proofs.WholeRoots.{root_is}
@@ -23,10 +24,8 @@ use Rattle.day.specs.Judgement.{readings_of, entries_of, clear_of, means_of, ear
 use Rattle.day.specs.Bound.{WithinBound, SignedConstants}
 use Rattle.day.specs.declared.Station.{Station}
 use Rattle.day.specs.declared.Day.{Day}
-use Rattle.day.specs.declared.Mean.TheVariants.{Present, Absent}
 use Rattle.day.specs.declared.Earlier.{Earlier}
 use Rattle.day.specs.declared.Refusal.TheVariants.{AboveClear}
-use Rattle.day.specs.declared.Standing.TheVariants as standing
 use Rattle.day.specs.declared.Verdict.{Verdict}
 use Rattle.day.specs.declared.Verdict.TheVariants.{Figure, Estimated}
 use Rattle.day.proofs.DayBound.{within_bound}
@@ -107,7 +106,7 @@ figure_as_lem st day earlier entries-are is = ap₂ (figure_as st day earlier) e
 
 -- by computation: none of the refusals holds, and the figure is n, with the mark that the day has
 pub worked : (st : Station) (day : Day) (earlier : Earlier) (t : Entries) → entries_of st (as_judged day) ≡ t → SignedConstants st → {root : ℤ} →
-    sheet.r (sheet.e (as_judged day).dewpoint) ≡ root → standing_of st (as_judged day) earlier ≡ standing.Answered → {n : ℕ} →
+    sheet.r (sheet.e (as_judged day).dewpoint) ≡ root → standing_of st (as_judged day) earlier ≡ Ok tt → {n : ℕ} →
     figure_as st (as_judged day) earlier t root ≡ n → {verdict : ℕ → Verdict} → with_mark day n ≡ verdict n → Worked st day earlier verdict n
 worked st day earlier t entries-are constants is none {n} same mark =
     let answered = stands_answered st (as_judged day) earlier none in
@@ -144,18 +143,18 @@ abbrev winter_day : Day
 winter_day = record { year = 2008; d = 12; maximum = pos 320; minimum = pos 320; mean = pos 320; dewpoint = pos 320; radiation = pos 0; wind = pos 0 }
 
 abbrev winter_means : Earlier
-winter_means = record { one = Present (pos 200); two = Present (pos 200); three = Absent }
+winter_means = record { one = Some (pos 200); two = Some (pos 200); three = None }
 
 -- a day whose figure is above 0
 abbrev pub summer_day : Day
 summer_day = record { year = 2008; d = 180; maximum = pos 900; minimum = pos 550; mean = pos 720; dewpoint = pos 500; radiation = pos 7_000; wind = pos 1_000 }
 
 abbrev pub summer_means : Earlier
-summer_means = record { one = Present (pos 710); two = Present (pos 700); three = Absent }
+summer_means = record { one = Some (pos 710); two = Some (pos 700); three = None }
 
 -- the same after three means that differ: without one of them, or with one in another's place, the figure is another
 abbrev three_means : Earlier
-three_means = record { one = Present (pos 850); two = Present (pos 610); three = Present (pos 455) }
+three_means = record { one = Some (pos 850); two = Some (pos 610); three = Some (pos 455) }
 
 -- the summer day with 200 miles of wind, which is above every limit
 abbrev windy_day : Day

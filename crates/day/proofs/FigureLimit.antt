@@ -3,14 +3,14 @@
 use mathlib.Core.Path.{◌≡◌, refl}
 use Prim.Native.Nat.{ℕ}
 use native.Mathlib.Omega.{arith}
+use Rattle.std.specs.Prelude.{Result, Ok, Err}
 use Rattle.equation.proofs.FigureLimit as sheet-limit
 use Rattle.day.specs.Judgement.{readings_of, entries_of, clear_of, means_of, earlier_of, figure_of, standing_of, as_judged, with_mark, verdict_with, judged}
 use Rattle.day.specs.Bound.{SignedConstants, FigureAtMost, FigureInRange}
 use Rattle.day.specs.declared.Station.{Station}
 use Rattle.day.specs.declared.Day.{Day}
 use Rattle.day.specs.declared.Earlier.{Earlier}
-use Rattle.day.specs.declared.Standing.{Standing}
-use Rattle.day.specs.declared.Standing.TheVariants as standing
+use Rattle.day.specs.declared.Refusal.{Refusal}
 use Rattle.day.specs.declared.Verdict.{Verdict}
 use Rattle.day.specs.declared.Verdict.TheVariants.{Figure, Refused, Estimated}
 use Rattle.day.proofs.Marks.{either_way}
@@ -28,9 +28,9 @@ figure_most st x earlier constants = by (standing_of st (as_judged x) earlier) r
     y : Day
     y = as_judged x
 
-    by : (s : Standing) → standing_of st (as_judged x) earlier ≡ s → FigureAtMost most_figure (verdict_with s (with_mark x (figure_of st (as_judged x) earlier)))
-    by (standing.Refused r) p = tt
-    by standing.Answered p =
+    by : (s : Result (Unit {0}) Refusal) → standing_of st (as_judged x) earlier ≡ s → FigureAtMost most_figure (verdict_with s (with_mark x (figure_of st (as_judged x) earlier)))
+    by (Err r) p = tt
+    by (Ok done) p =
         let most =
         sheet-limit.figure_most (readings_of y) (entries_of st y) (means_of earlier) (constants_of st y)
         (accepted st y earlier constants (stands_answered st y earlier p)) in

@@ -2,6 +2,7 @@
 pub mod Tests
 pub mod Dates
 pub mod Passed
+pub mod Numbers
 pub mod Standings
 pub mod Marks
 pub mod EarlierMeans

@@ -10,6 +10,7 @@ use borrow.Author.Tests.{le-ltb}
 use lib.Dec.{T, eqb, leb→le, lit≤}
 use lib.IntN.{ℤ, pos, negsuc, nat_abs, ◌+ℤ◌, ◌-ℤ◌, ◌*ℤ◌}
 use lib.Signed.{lt_z, ◌≤ℤ◌}
+use Rattle.std.specs.Prelude.{Result, Ok, Err}
 use Rattle.numbers.specs.Ranges.{InRange}
 use Rattle.numbers.specs.Whole.{◌÷↓◌}
 use Rattle.tables.specs.Values.{pressure_at}
@@ -24,8 +25,6 @@ use Rattle.day.specs.declared.Day.{Day}
 use Rattle.day.specs.declared.Earlier.{Earlier}
 use Rattle.day.specs.declared.Refusal.{Refusal}
 use Rattle.day.specs.declared.Refusal.TheVariants.{StationField, BadDate, Missing, OutOfRange, OutOfOrder, AboveClear}
-use Rattle.day.specs.declared.Standing.{Standing}
-use Rattle.day.specs.declared.Standing.TheVariants as standing
 use Rattle.day.specs.declared.Verdict.{Verdict}
 use Rattle.day.specs.declared.Verdict.TheVariants.{Refused}
 use Rattle.day.proofs.FigureWith.{figure_with}
@@ -60,9 +59,9 @@ pub data Former : Type 0 where
   eleven : Former
 
 -- "the first of 3, 6 (calendar only), 7, 8, 9, 10, 11, in that order", or the figure
-abbrev formerly : Standing → Bool → Verdict → Former
-formerly (standing.Refused r) held v = still (Refused r)
-formerly standing.Answered held v = cond held eleven (still v)
+abbrev formerly : Result (Unit {0}) Refusal → Bool → Verdict → Former
+formerly (Err r) held v = still (Refused r)
+formerly (Ok done) held v = cond held eleven (still v)
 
 pub judged_before : Station → Day → Earlier → Former
 judged_before st x earlier =
@@ -85,7 +84,7 @@ not_below_one {a} (pos m) (pos n) l h k = le-ltb (m + n) 1 (omega (arith, leb→
 not_below_one (negsuc m) y l h k = absurd h.le
 not_below_one (pos m) (negsuc n) l h k = absurd k.le
 
-module _ (st : Station) (x : Day) (earlier : Earlier) (answered : standing_of st x earlier ≡ standing.Answered) where
+module _ (st : Station) (x : Day) (earlier : Earlier) (answered : standing_of st x earlier ≡ Ok tt) where
   readings : ReadingsInRange (readings_of x)
   unfolding Answered
   readings = readings_in st x earlier (stands_answered st x earlier answered OutOfRange)
@@ -109,10 +108,10 @@ none_moved st x earlier = by (standing_of st (as_judged x) earlier) refl
     y : Day
     y = as_judged x
 
-    by : (s : Standing) → standing_of st (as_judged x) earlier ≡ s →
+    by : (s : Result (Unit {0}) Refusal) → standing_of st (as_judged x) earlier ≡ s →
         formerly s (eleven_held st y) (with_mark x (figure_before st y earlier)) ≡ still (verdict_with s (with_mark x (figure_of st y earlier)))
-    by (standing.Refused r) p = refl
-    by standing.Answered p = λ i. cond (eleven_never st y earlier p i) eleven (still (with_mark x (figure_same st y earlier p i)))
+    by (Err r) p = refl
+    by (Ok done) p = λ i. cond (eleven_never st y earlier p i) eleven (still (with_mark x (figure_same st y earlier p i)))
 
 -- ---- the number is given to no other refusal of a day
 

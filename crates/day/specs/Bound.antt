@@ -1,6 +1,6 @@
 -- Demand 3 for a day handed in alone: an answered day gets a figure within 6/100,000 of an inch of the unrounded equation. What is proved is
 -- sharper: 5.15/100,000. Assumes nothing.
-use Rattle.std.specs.Prelude.{List, [], ◌∷◌, ◌≡◌, ℕ, ◌≤◌, pos}
+use Rattle.std.specs.Prelude.{List, [], ◌∷◌, ◌≡◌, ℕ, ◌≤◌, pos, Option, Some, None, ℤ}
 use Rattle.numbers.specs.Ranges.{InRange}
 use Rattle.numbers.specs.Fractions.{ℚ, from_ℤ, ◌/ℚ◌, ◌-ℚ◌, ◌*ℚ◌, ◌≤ℚ◌, abs_ℚ}
 use Rattle.numbers.specs.Rounding.{RootOf}
@@ -13,17 +13,15 @@ use Rattle.equation.specs.Equation as equation
 use Rattle.day.specs.Judgement.{Answered, as_judged, with_mark}
 use Rattle.day.specs.declared.Station.{Station}
 use Rattle.day.specs.declared.Day.{Day}
-use Rattle.day.specs.declared.Mean.{Mean}
-use Rattle.day.specs.declared.Mean.TheVariants.{Present, Absent}
 use Rattle.day.specs.declared.Earlier.{Earlier}
 use Rattle.day.specs.declared.Verdict.{Verdict}
 use Rattle.sheet.specs.Quantities.{largest_figure}
 use Rattle.day.specs.declared.Verdict.TheVariants.{Figure, Refused, Estimated}
 
 -- "the earlier means present", in °F: of the three calendar days before, those that have one
-abbrev pub if_present : Mean → List ℚ → List ℚ
-if_present (Present f) Fs = tenths f ∷ Fs
-if_present Absent Fs = Fs
+abbrev pub if_present : Option ℤ → List ℚ → List ℚ
+if_present (Some f) Fs = tenths f ∷ Fs
+if_present None Fs = Fs
 
 abbrev pub means_present : Earlier → List ℚ
 means_present earlier = if_present earlier.one (if_present earlier.two (if_present earlier.three []))

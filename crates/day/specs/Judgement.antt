@@ -1,6 +1,6 @@
 -- One day judged: what the step sheet is worked from, when each refusal holds, which one does first, what stands for a missing dew point, and the
 -- verdict. Assumes nothing.
-use Rattle.std.specs.Prelude.{Bool, false, not, cond, List, [], ◌∷◌, ◌≡◌, ℕ, ℤ, pos, nat_abs, length}
+use Rattle.std.specs.Prelude.{Bool, false, not, cond, List, [], ◌∷◌, ◌≡◌, ℕ, ℤ, pos, nat_abs, length, Option, Some, None, Result, Ok, Err}
 use Rattle.tables.specs.Values.{albedo_at, a1_at, aw_at, bw_at, pressure_at}
 use Rattle.sheet.specs.StepSheet as sheet
 use Rattle.sheet.specs.StepSheet.{sum_of}
@@ -11,13 +11,9 @@ use Rattle.day.specs.Calendar.{is_date}
 use Rattle.day.specs.Rules.{any_of, bad_station, is_missing, other_marks, missing_marks, reading_faults, mean_fault, order_faults}
 use Rattle.day.specs.declared.Station.{Station}
 use Rattle.day.specs.declared.Day.{Day}
-use Rattle.day.specs.declared.Mean.{Mean}
-use Rattle.day.specs.declared.Mean.TheVariants.{Present, Absent}
 use Rattle.day.specs.declared.Earlier.{Earlier}
 use Rattle.day.specs.declared.Refusal.{Refusal}
 use Rattle.day.specs.declared.Refusal.TheVariants.{StationField, BadDate, Missing, OutOfRange, OutOfOrder, AboveClear}
-use Rattle.day.specs.declared.Standing.{Standing}
-use Rattle.day.specs.declared.Standing.TheVariants as standing
 use Rattle.day.specs.declared.Verdict.{Verdict}
 use Rattle.day.specs.declared.Verdict.TheVariants.{Figure, Refused, Estimated}
 
@@ -55,9 +51,9 @@ clear_of st x =
     sheet.Q (pos st.minimum) (sheet.clear_sum st.c1 st.c2 st.c3 st.c4 st.c5 (pos x.d))
 
 -- the earlier means that are present
-abbrev pub with_mean : Mean → List ℤ → List ℤ
-with_mean (Present f) fs = f ∷ fs
-with_mean Absent fs = fs
+abbrev pub with_mean : Option ℤ → List ℤ → List ℤ
+with_mean (Some f) fs = f ∷ fs
+with_mean None fs = fs
 
 unfoldable pub means_of : Earlier → List ℤ
 means_of earlier = with_mean earlier.one (with_mean earlier.two (with_mean earlier.three []))
@@ -97,15 +93,15 @@ Answered st x earlier = (r : Refusal) → holds r st x earlier ≡ false
 -- ---- which holds first
 
 -- the first of some refusals that holds, or that none does
-abbrev pub first_of : List Refusal → (Refusal → Bool) → Standing
-first_of [] held = standing.Answered
-first_of (r ∷ rs) held = cond (held r) (standing.Refused r) (first_of rs held)
+abbrev pub first_of : List Refusal → (Refusal → Bool) → Result (Unit {0}) Refusal
+first_of [] held = Ok tt
+first_of (r ∷ rs) held = cond (held r) (Err r) (first_of rs held)
 
 -- "the first of 3, 6 (calendar only), 7, 8, 9, 10, 11, in that order", without 11 (02, W6)
 abbrev pub in_order : List Refusal
 in_order = StationField ∷ BadDate ∷ Missing ∷ OutOfRange ∷ OutOfOrder ∷ AboveClear ∷ []
 
-unfoldable pub standing_of : Station → Day → Earlier → Standing
+unfoldable pub standing_of : Station → Day → Earlier → Result (Unit {0}) Refusal
 standing_of st x earlier = first_of in_order (λ r. holds r st x earlier)
 
 -- ---- a day without a dew point (02, W4)
@@ -140,9 +136,9 @@ with_mark x n = cond (lacks_dew_point x) (Estimated n) (Figure n)
 -- ---- the verdict
 
 -- "It returns its figure or the first of .."
-abbrev pub verdict_with : Standing → Verdict → Verdict
-verdict_with (standing.Refused r) v = Refused r
-verdict_with standing.Answered v = v
+abbrev pub verdict_with : Result (Unit {0}) Refusal → Verdict → Verdict
+verdict_with (Err r) v = Refused r
+verdict_with (Ok done) v = v
 
 unfoldable pub judged : Station → Day → Earlier → Verdict
 judged st x earlier = verdict_with (standing_of st (as_judged x) earlier) (with_mark x (figure_of st (as_judged x) earlier))

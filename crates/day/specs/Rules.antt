@@ -1,14 +1,13 @@
 -- The rules of one day: when each refusal holds, in document 01's order and with its numbers. Assumes nothing.
-use Rattle.std.specs.Prelude.{Bool, true, false, not, cond, ◌||◌, List, [], ◌∷◌, ◌++◌, ℕ, ◌+◌, ltb, eqb, ℤ, pos, negsuc}
+use Rattle.std.specs.Prelude.{Bool, true, false, not, cond, ◌||◌, List, [], ◌∷◌, ◌++◌, ℕ, ◌+◌, ltb, eqb, ℤ, pos, negsuc, Option, Some, None, Result, MatchResult, ◌≡◌, ◌≢◌}
 use Rattle.std.specs.Int.Signed.{lt_z}
 use Rattle.numbers.specs.Ranges.{in_range}
 use Rattle.sheet.specs.Limits as limits
 -- the limit that kind 1 keeps, for the crates above, which do not rest on `sheet`
 pub use Rattle.sheet.specs.Limits.{routine_limit}
-use Rattle.day.specs.declared.Mean.{Mean}
-use Rattle.day.specs.declared.Mean.TheVariants.{Present, Absent}
 use Rattle.day.specs.declared.Station.{Station}
 use Rattle.day.specs.declared.Refusal.{Refusal}
+use Rattle.day.specs.declared.UnknownRefusal.{UnknownRefusal}
 use Rattle.day.specs.declared.Refusal.TheVariants.{StationField, BadDate, Missing, OutOfRange, OutOfOrder, AboveClear}
 
 -- the document's number of each refusal. 11 was "D + g of the sheet below 1", which never holds of a day that the others let through. It went with
@@ -20,6 +19,10 @@ number_of Missing = 7
 number_of OutOfRange = 8
 number_of OutOfOrder = 9
 number_of AboveClear = 10
+
+-- the refusal with this number, or the number itself where no refusal has it
+abbrev pub RefusalOf : ℕ → Result Refusal UnknownRefusal → Type 0
+RefusalOf n r = MatchResult r (λ why. number_of why ≡ n) (λ e. (e.0 ≡ n) × ((why : Refusal) → number_of why ≢ n))
 
 -- one of the tests holds
 abbrev pub any_of : List Bool → Bool
@@ -68,9 +71,9 @@ reading_faults maximum minimum mean dewpoint radiation wind =
     ∷ not (in_range limits.wind wind)
     ∷ []
 
-abbrev pub mean_fault : Mean → Bool
-mean_fault (Present f) = not (in_range limits.temperature f)
-mean_fault Absent = false
+abbrev pub mean_fault : Option ℤ → Bool
+mean_fault (Some f) = not (in_range limits.temperature f)
+mean_fault None = false
 
 -- 9: minimum > mean, mean > maximum, or dew point > maximum
 abbrev pub order_faults : ℤ → ℤ → ℤ → ℤ → List Bool

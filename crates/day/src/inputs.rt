@@ -9,7 +9,7 @@ ghost use Rattle.day.specs.Rules.{mean_fault};
 ghost use Rattle.day.specs.Judgement.{readings_of, entries_at, clear_of, earlier_of};
 ghost use Rattle.day.specs.Parts.{count_of, tenths_of};
 
-use crate::{Day, Mean, Station};
+use crate::{Day, Station};
 use sheet::{Entries, Readings};
 
 // A reading or a constant of two bytes, signed, as the sheet takes it.
@@ -94,23 +94,23 @@ pub fn clear_of(station: Station, day: Day) -> i64
 }
 
 // 1 for a mean that is present.
-fn count_of(mean: Mean) -> i64
+fn count_of(mean: Option<i16>) -> i64
     ensures { (result ≡ count_of mean) × InRange (from 0 to 1) result }
 {
     match mean {
-        Mean::Present(_) => 1,
-        Mean::Absent => 0,
+        Some(_) => 1,
+        None => 0,
     }
 }
 
 // The mean, or 0 for none.
-fn tenths_of(mean: Mean) -> i64
+fn tenths_of(mean: Option<i16>) -> i64
     requires { mean_fault mean ≡ false }
     ensures { (result ≡ tenths_of mean) × InRange quantities.temperature result }
 {
     match mean {
-        Mean::Present(f) => wide(f),
-        Mean::Absent => 0,
+        Some(f) => wide(f),
+        None => 0,
     }
 }
 

@@ -8,7 +8,7 @@ ghost use Rattle.day.specs.Judgement.{Answered, figure_of, judged};
 use crate::dew_point::{as_judged, with_mark};
 use crate::inputs::{clear_of, earlier_of, entries_at, readings_of, wide_unsigned};
 use crate::refusals::standing;
-use crate::{Day, Earlier, Standing, Station, Verdict};
+use crate::{Day, Earlier, Station, Verdict};
 
 // The figure of a day that nothing refuses: the sheet worked, by the tables lent.
 pub fn figure(
@@ -45,8 +45,8 @@ pub fn judge_by(
 {
     let x = as_judged(day);
     match standing(station, x, earlier) {
-        Standing::Refused(why) => Verdict::Refused(why),
-        Standing::Answered => with_mark(day, figure(days, pressures, station, x, earlier)),
+        Err(why) => Verdict::Refused(why),
+        Ok(()) => with_mark(day, figure(days, pressures, station, x, earlier)),
     }
 }
 

@@ -2,7 +2,7 @@
 #![tactic(auto)]
 
 ghost use Rattle.std.specs.Prelude.{◌≡◌};
-ghost use Rattle.day.specs.Rules.{number_of};
+ghost use Rattle.day.specs.Rules.{number_of, RefusalOf};
 
 pub mod calendar;
 pub mod dew_point;
@@ -49,23 +49,16 @@ pub struct Day {
     pub wind: i16,
 }
 
-// The mean of an earlier day, in tenths.
-#[derive(Clone, Copy)]
-pub enum Mean {
-    Present(i16),
-    Absent,
-}
-
-// The means of the three calendar days before.
+// The means of the three calendar days before, in tenths, of those that have one.
 #[derive(Clone, Copy)]
 pub struct Earlier {
-    pub one: Mean,
-    pub two: Mean,
-    pub three: Mean,
+    pub one: Option<i16>,
+    pub two: Option<i16>,
+    pub three: Option<i16>,
 }
 
 // Why a day gets no figure; specs/Rules.antt gives each its number. 11 was a refusal once, and is given to nothing else.
-#[derive(Clone, Copy)]
+#[derive(Clone, Copy, Debug, PartialEq, Eq)]
 pub enum Refusal {
     StationField,
     BadDate,
@@ -75,12 +68,9 @@ pub enum Refusal {
     AboveClear,
 }
 
-// What refuses a day, or that nothing does.
-#[derive(Clone, Copy)]
-pub enum Standing {
-    Refused(Refusal),
-    Answered,
-}
+// A number that no refusal has.
+#[derive(Clone, Copy, Debug, PartialEq, Eq)]
+pub struct UnknownRefusal(pub u32);
 
 // The figure in 0.0001 inch, or the refusal; or the figure with the mark that the minimum stood for a missing dew point.
 #[derive(Clone, Copy)]
@@ -90,18 +80,37 @@ pub enum Verdict {
     Estimated(u32),
 }
 
-impl Refusal {
-    // Its number on an answer.
-    pub fn number(self) -> u32
-        ensures { result ≡ number_of self }
-    {
-        match self {
+// Its number on an answer.
+impl From<Refusal> for u32 {
+    ghost from_gives = { λ why number. number ≡ number_of why };
+
+    fn from(why: Refusal) -> u32 {
+        match why {
             Refusal::StationField => 3,
             Refusal::BadDate => 6,
             Refusal::Missing => 7,
             Refusal::OutOfRange => 8,
             Refusal::OutOfOrder => 9,
             Refusal::AboveClear => 10,
+        }
+    }
+}
+
+// The refusal of a number.
+impl TryFrom<u32> for Refusal {
+    type Error = UnknownRefusal;
+
+    ghost try_from_gives = { RefusalOf };
+
+    fn try_from(number: u32) -> Result<Refusal, UnknownRefusal> {
+        match number {
+            3 => Ok(Refusal::StationField),
+            6 => Ok(Refusal::BadDate),
+            7 => Ok(Refusal::Missing),
+            8 => Ok(Refusal::OutOfRange),
+            9 => Ok(Refusal::OutOfOrder),
+            10 => Ok(Refusal::AboveClear),
+            _ => Err(UnknownRefusal(number)),
         }
     }
 }

@@ -12,7 +12,7 @@ use crate::inputs::{clear_of, wide};
 use crate::rules::{
     mean_out_of_range, out_of_order, some_missing, some_out_of_range, station_field_out_of_range,
 };
-use crate::{Day, Earlier, Refusal, Standing, Station};
+use crate::{Day, Earlier, Refusal, Station};
 
 // Refusal 3.
 pub fn bad_station(station: Station) -> bool
@@ -111,26 +111,26 @@ fn above_clear(station: Station, day: Day) -> bool
 
 // The first of 3, 6, 7, 8, 9, 10 that holds, or that none does.
 #[tactic(auto, unfolding(crate::specs::Judgement::standing_of, crate::specs::Judgement::holds))]
-pub fn standing(station: Station, day: Day, earlier: Earlier) -> Standing
+pub fn standing(station: Station, day: Day, earlier: Earlier) -> Result<(), Refusal>
     ensures { result ≡ standing_of station day earlier }
 {
     if bad_station(station) {
-        return Standing::Refused(Refusal::StationField);
+        return Err(Refusal::StationField);
     }
     if bad_date(day) {
-        return Standing::Refused(Refusal::BadDate);
+        return Err(Refusal::BadDate);
     }
     if reading_missing(day) {
-        return Standing::Refused(Refusal::Missing);
+        return Err(Refusal::Missing);
     }
     if out_of_range(day, earlier) {
-        return Standing::Refused(Refusal::OutOfRange);
+        return Err(Refusal::OutOfRange);
     }
     if disordered(day) {
-        return Standing::Refused(Refusal::OutOfOrder);
+        return Err(Refusal::OutOfOrder);
     }
     if above_clear(station, day) {
-        return Standing::Refused(Refusal::AboveClear);
+        return Err(Refusal::AboveClear);
     }
-    Standing::Answered
+    Ok(())
 }

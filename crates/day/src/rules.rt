@@ -3,7 +3,6 @@ ghost use Rattle.std.specs.Prelude.{◌≡◌};
 ghost use Rattle.day.specs.Rules.{not_capital, station_faults, other_marks, missing_marks, reading_faults, mean_fault, order_faults};
 ghost use Rattle.day.specs.Rules.{any_of};
 
-use crate::Mean;
 use crate::readings::{ClearMinimum, Elevation, Radiation, Temperature, Wind, WindLimit};
 
 // The mark of a missing reading.
@@ -115,12 +114,12 @@ pub fn some_out_of_range(
 }
 
 // Refusal 8 again: an earlier mean that is present but out of range.
-pub fn mean_out_of_range(mean: Mean) -> bool
+pub fn mean_out_of_range(mean: Option<i16>) -> bool
     ensures { result ≡ mean_fault mean }
 {
     match mean {
-        Mean::Present(f) => !(Temperature { tenths: f }).in_range(),
-        Mean::Absent => false,
+        Some(f) => !(Temperature { tenths: f }).in_range(),
+        None => false,
     }
 }
 

@@ -1,8 +1,8 @@
 -- A day handed in by its numbers, and what returned numbers say, worked out. Assumes nothing.
 use mathlib.Core.Path.{◌≡◌, refl}
 use lib.IntN.{pos, negsuc}
+use Rattle.std.specs.Prelude.{Some, None}
 use Rattle.day.specs.Judgement.{judged}
-use Rattle.day.specs.declared.Mean.TheVariants.{Present, Absent}
 use Rattle.day.specs.declared.Verdict.TheVariants.{Figure}
 use Rattle.day.proofs.Examples.{days}
 use Rattle.exports.specs.HandedIn.{station_of, day_of, mean_of, three_before}
@@ -16,7 +16,7 @@ pub handed_in : judged (station_of 76 73 68 87 (pos 154) (pos 1_760) (pos 614) (
 handed_in = days.1.told
 
 -- a flag of 0 says that there is no mean
-pub flags : (mean_of 0 (pos 710) ≡ Absent) × (mean_of 1 (pos 710) ≡ Present (pos 710)) × (mean_of 255 (pos 710) ≡ Present (pos 710))
+pub flags : (mean_of 0 (pos 710) ≡ None) × (mean_of 1 (pos 710) ≡ Some (pos 710)) × (mean_of 255 (pos 710) ≡ Some (pos 710))
 flags = (refl, refl, refl)
 
 -- 3,518; 7 with nothing; 3,347 with the mark, whose number is 256; a text buffer that is too short

@@ -1,9 +1,7 @@
 -- A station, a day and the earlier means from the numbers that are handed in for them. Assumes nothing.
-use Rattle.std.specs.Prelude.{cond, ℕ, eqb, ℤ}
+use Rattle.std.specs.Prelude.{cond, ℕ, eqb, ℤ, Option, Some, None}
 use Rattle.day.specs.declared.Day.{Day}
 use Rattle.day.specs.declared.Earlier.{Earlier}
-use Rattle.day.specs.declared.Mean.{Mean}
-use Rattle.day.specs.declared.Mean.TheVariants.{Present, Absent}
 use Rattle.day.specs.declared.Station.{Station}
 
 -- the code's letters, c1 to c5, the clear-day minimum, the elevation, the wind limit
@@ -36,8 +34,8 @@ day_of year d maximum minimum mean dewpoint radiation wind =
     }
 
 -- a mean in tenths; a flag of 0 says that there is none
-abbrev pub mean_of : ℕ → ℤ → Mean
-mean_of flag tenths = cond (eqb flag 0) Absent (Present tenths)
+abbrev pub mean_of : ℕ → ℤ → Option ℤ
+mean_of flag tenths = cond (eqb flag 0) None (Some tenths)
 
 -- the means of the three calendar days before, the nearest first
 abbrev pub three_before : ℕ → ℤ → ℕ → ℤ → ℕ → ℤ → Earlier

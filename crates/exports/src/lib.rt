@@ -13,7 +13,7 @@ ghost use Rattle.exports.specs.Told.{said, said_by, verdict_said, outcome_said, 
 ghost use Rattle.exports.specs.Version.{version};
 
 use day::judge::judge;
-use day::{Code, Day, Earlier, Mean, Station, Verdict};
+use day::{Code, Day, Earlier, Station, Verdict};
 use station_log::Outcome;
 use text::Printed;
 
@@ -36,13 +36,13 @@ fn packed(number: u32, value: u32) -> u64
 }
 
 // An earlier mean, unless its flag is 0. The flag is a number, so that each value that a caller can pass has a meaning.
-fn mean_of(flag: u8, tenths: i16) -> Mean
+fn mean_of(flag: u8, tenths: i16) -> Option<i16>
     ensures { result ≡ mean_of flag tenths }
 {
     if flag == 0 {
-        return Mean::Absent;
+        return None;
     }
-    Mean::Present(tenths)
+    Some(tenths)
 }
 
 // A day handed in alone. The high half of the result is the refusal's number, or 0 or the mark's for none; the low half is then the figure.
@@ -112,7 +112,7 @@ pub extern "C" fn fuortwem_judge(
     };
     match judge(station, day, earlier) {
         Verdict::Figure(n) => packed(0, n),
-        Verdict::Refused(why) => packed(why.number(), 0),
+        Verdict::Refused(why) => packed(u32::from(why), 0),
         Verdict::Estimated(n) => packed(MARK, n),
     }
 }

@@ -93,7 +93,7 @@ fn put_verdict(out: &mut [u8], at: usize, verdict: Verdict) -> usize
         Verdict::Figure(n) => put_inches(out, at, n as u64),
         Verdict::Refused(r) => {
             let start = put_byte(out, at, b'R');
-            put_digits(out, start, r.number() as u64)
+            put_digits(out, start, u32::from(r) as u64)
         }
         Verdict::Estimated(n) => {
             let inches_end = put_inches(out, at, n as u64);

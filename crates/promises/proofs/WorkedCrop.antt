@@ -9,11 +9,11 @@ use native.Mathlib.Omega.{arith}
 use lib.Dec.{ltb}
 use lib.IntN.{pos}
 use lib.ListN.{length, replicate}
+use Rattle.std.specs.Prelude.{Some, None}
 use Rattle.crops.specs.Crop.{bad_crop, in_season, above, crop_figure}
 use Rattle.day.specs.Calendar.{year_length, is_date}
 use Rattle.day.specs.Judgement.{holds, standing_of, lacks_dew_point, as_judged, judged, Answered}
 use Rattle.day.specs.declared.Earlier.{Earlier}
-use Rattle.day.specs.declared.Mean.TheVariants.{Present, Absent}
 use Rattle.day.specs.declared.Refusal.TheVariants.{Missing}
 use Rattle.day.specs.declared.Verdict.{Verdict}
 use Rattle.day.specs.declared.Verdict.TheVariants.{Figure, Refused}
@@ -50,7 +50,7 @@ abbrev at : ℕ → Earlier → Verdict
 at offset earlier = judged (station_at crop_log 1) (day_at crop_log offset) earlier
 
 lacking : (at 42 no_mean ≡ Refused Missing) × (at 59 (one_mean 700) ≡ Refused Missing) × (at 112 no_mean ≡ Refused Missing) × (at 129 (one_mean 455) ≡ Refused Missing)
-    × (at 146 (record { one = Present (pos 610); two = Present (pos 455); three = Absent }) ≡ Refused Missing)
+    × (at 146 (record { one = Some (pos 610); two = Some (pos 455); three = None }) ≡ Refused Missing)
 unfolding judged lacks_dew_point as_judged standing_of holds station_at day_at word_at signed_of signed_at is_date year_length
 lacking = (refl, refl, refl, refl, refl)
 
@@ -109,7 +109,7 @@ front_two v w u a b c =
 
 -- record 9 is the same day after other means
 abbrev pub other_means : Earlier
-other_means = record { one = Present (pos 850); two = Present (pos 610); three = Present (pos 455) }
+other_means = record { one = Some (pos 850); two = Some (pos 610); three = Some (pos 455) }
 
 pub second_day : AnsweredDay crop_log 9 (station_at crop_log 93) (day_at crop_log 163) other_means 73
 unfolding reading_of read_from record_at station_at day_at crop_at word_at signed_of signed_at is_date year_length days_before good_date counted earlier_means verdict_of Answered bad_crop in_season above crop_figure day_there

@@ -9,12 +9,12 @@ use Prim.Native.Nat.{ℕ}
 use lib.Dec.{ltb}
 use lib.IntN.{pos}
 use lib.ListN.{length, replicate}
+use Rattle.std.specs.Prelude.{Some, None}
 use Rattle.crops.specs.Crop.{bad_crop, in_season, above, crop_figure}
 use Rattle.day.specs.Calendar.{year_length, is_date}
 use Rattle.day.specs.Judgement.{holds, standing_of, lacks_dew_point, as_judged, judged, Answered}
 use Rattle.day.specs.declared.Day.{Day}
 use Rattle.day.specs.declared.Earlier.{Earlier}
-use Rattle.day.specs.declared.Mean.TheVariants.{Present, Absent}
 use Rattle.day.specs.declared.Refusal.TheVariants.{Missing}
 use Rattle.day.specs.declared.Station.{Station}
 use Rattle.day.specs.declared.Verdict.{Verdict}
@@ -52,7 +52,7 @@ estimate_log = station ++ beans ++ windless 178 2 188 ++ two_missing ++ no_dew_p
 
 -- the means of the three days before day 181: 72 °F is that of the day without a dew point
 abbrev three_means : Earlier
-three_means = record { one = Present (pos 720); two = Present (pos 710); three = Present (pos 700) }
+three_means = record { one = Some (pos 720); two = Some (pos 710); three = Some (pos 700) }
 
 -- ---- the days with another reading missing are refused, now as before; and before so was day 180
 
@@ -71,7 +71,7 @@ unfolding judged_strictly standing_of holds station_at day_at word_at signed_of 
 lacking_then = (refl, refl, refl, refl, refl, refl)
 
 -- day 12 of document 01's log had the figure that it has
-answered_then : at judged_strictly 163 (record { one = Present (pos 200); two = Present (pos 200); three = Absent }) ≡ Figure 0
+answered_then : at judged_strictly 163 (record { one = Some (pos 200); two = Some (pos 200); three = None }) ≡ Figure 0
 unfolding lacks_dew_point station_at day_at word_at signed_of signed_at
 answered_then = sym ((since (station_at estimate_log 1) (day_at estimate_log 163) _).remains refl) ∙ days.0.told
 

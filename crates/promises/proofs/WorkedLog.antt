@@ -6,10 +6,10 @@ use mathlib.Core.List.{List, [], ◌∷◌, ◌++◌}
 use Prim.Native.Nat.{ℕ}
 use lib.IntN.{pos}
 use lib.ListN.{take, drop}
+use Rattle.std.specs.Prelude.{Some, None}
 use Rattle.day.specs.Calendar.{year_length, is_date}
 use Rattle.day.specs.Judgement.{holds, standing_of, lacks_dew_point, as_judged, judged, Answered}
 use Rattle.day.specs.declared.Earlier.{Earlier}
-use Rattle.day.specs.declared.Mean.TheVariants.{Present, Absent}
 use Rattle.day.specs.declared.Refusal.TheVariants.{BadDate, Missing}
 use Rattle.day.specs.declared.Verdict.TheVariants.{Figure, Refused}
 use Rattle.day.proofs.Examples.{days}
@@ -26,7 +26,7 @@ use Rattle.promises.proofs.DayThere.{day_there}
 
 -- day 12, the third: two earlier means, of days that are refused
 abbrev pub means : Earlier
-means = record { one = Present (pos 200); two = Present (pos 200); three = Absent }
+means = record { one = Some (pos 200); two = Some (pos 200); three = None }
 
 pub third : DayAt sample 3 (station_at sample 1) (day_at sample 54) means true 23
 unfolding reading_of read_from record_at station_at day_at word_at signed_of signed_at is_date year_length days_before good_date counted earlier_means
@@ -38,8 +38,8 @@ unfolding station_at day_at word_at signed_of signed_at Answered
 answered = record { at = third; others = λ r t. days.0.answered r }
 
 -- days 10 and 11 lack the wind
-lacking : (judged (station_at sample 1) (day_at sample 20) (record { one = Absent; two = Absent; three = Absent }) ≡ Refused Missing)
-    × (judged (station_at sample 1) (day_at sample 37) (record { one = Present (pos 200); two = Absent; three = Absent }) ≡ Refused Missing)
+lacking : (judged (station_at sample 1) (day_at sample 20) (record { one = None; two = None; three = None }) ≡ Refused Missing)
+    × (judged (station_at sample 1) (day_at sample 37) (record { one = Some (pos 200); two = None; three = None }) ≡ Refused Missing)
 unfolding judged lacks_dew_point as_judged standing_of holds station_at day_at word_at signed_of signed_at is_date year_length
 lacking = (refl, refl)
 
@@ -88,13 +88,13 @@ two_blocks =
     ++ station ++ plain_day 216 0 10 0 200 128 0 ++ plain_day 216 0 11 0 200 128 0 ++ plain_day 216 0 11 1 64 0 0 ++ plain_day 216 0 12 1 64 0 0
 
 -- over the year's end: day 1 has the mean of day 365, whose day is refused
-pub year_end : DayAt two_blocks 2 (station_at two_blocks 1) (day_at two_blocks 37) (record { one = Present (pos 200); two = Absent; three = Absent }) true 14
+pub year_end : DayAt two_blocks 2 (station_at two_blocks 1) (day_at two_blocks 37) (record { one = Some (pos 200); two = None; three = None }) true 14
 unfolding reading_of read_from record_at station_at day_at word_at signed_of signed_at is_date year_length days_before good_date counted earlier_means
 year_end =
     day_there two_blocks 2 (record { station = station_at two_blocks 1; days = day_at two_blocks 20 ∷ []; crop = bare }) (day_at two_blocks 37) refl refl refl
 
-lacking_too : (judged (station_at two_blocks 1) (day_at two_blocks 20) (record { one = Absent; two = Absent; three = Absent }) ≡ Refused Missing)
-    × (judged (station_at two_blocks 1) (day_at two_blocks 37) (record { one = Present (pos 200); two = Absent; three = Absent }) ≡ Refused Missing)
+lacking_too : (judged (station_at two_blocks 1) (day_at two_blocks 20) (record { one = None; two = None; three = None }) ≡ Refused Missing)
+    × (judged (station_at two_blocks 1) (day_at two_blocks 37) (record { one = Some (pos 200); two = None; three = None }) ≡ Refused Missing)
 unfolding judged lacks_dew_point as_judged standing_of holds station_at day_at word_at signed_of signed_at is_date year_length
 lacking_too = (refl, refl)
 

@@ -6,6 +6,7 @@ use mathlib.Core.List.{List, [], ◌∷◌, ◌++◌}
 use mathlib.Core.Logic.{inl}
 use Prim.Native.Nat.{ℕ}
 use lib.IntN.{ℤ, pos, negsuc}
+use Rattle.std.specs.Prelude.{Some, None}
 use Rattle.tables.specs.Values.{sum_to, more, exp_sum, sin_sum, rounded, curve_at, arc_sum, arc_sums, bell_sums, first}
 use Rattle.sheet.specs.declared.Entries.{Entries}
 use Rattle.sheet.specs.StepSheet as sheet
@@ -13,7 +14,6 @@ use Rattle.day.specs.Calendar.{year_length, is_date}
 use Rattle.day.specs.Judgement.{readings_of, entries_of, clear_of, means_of, earlier_of, holds, standing_of, lacks_dew_point, as_judged, with_mark, judged}
 use Rattle.day.specs.declared.Day.{Day}
 use Rattle.day.specs.declared.Earlier.{Earlier}
-use Rattle.day.specs.declared.Mean.TheVariants.{Present, Absent}
 use Rattle.day.specs.declared.Refusal.TheVariants.{Missing}
 use Rattle.day.specs.declared.Verdict.TheVariants.{Figure, Refused, Estimated}
 use Rattle.day.proofs.Examples.{Worked, worked, station, constants, pressure, roots}
@@ -58,7 +58,7 @@ march1 = mild 2008 61 420 (negsuc 32_767)
 
 -- before 1 March
 abbrev means : Earlier
-means = record { one = Present (pos 410); two = Present (pos 400); three = Absent }
+means = record { one = Some (pos 410); two = Some (pos 400); three = None }
 
 -- the tables' entries at a day, with the pressure
 abbrev at : ℕ → ℕ → ℕ → ℕ → ℕ → Entries

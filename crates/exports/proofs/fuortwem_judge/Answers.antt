@@ -5,10 +5,10 @@ use lib.IntN.{ℤ}
 use mir.Facts.{to_z-of_z}
 use mir.Syntax.{w16}
 use mir.Val.{SFits, to_z, of_z}
+use Rattle.std.specs.Prelude.{Option}
 use Rattle.day.specs.Judgement.{judged}
 use Rattle.day.specs.declared.Day.{Day}
 use Rattle.day.specs.declared.Earlier.{Earlier}
-use Rattle.day.specs.declared.Mean.{Mean}
 use Rattle.day.specs.declared.Station.{Station}
 use Rattle.exports.specs.HandedIn.{station_of, day_of, mean_of, three_before}
 use Rattle.exports.specs.Told.{said, said_by, verdict_said, FigureSaid}
@@ -19,7 +19,7 @@ use Rattle.exports.proofs.fuortwem_judge.Goals.{After-judge}
 same : {z : ℤ} → SFits w16 z → to_z w16 (of_z w16 z) ≡ z
 same fits = to_z-of_z {w = w16} fits
 
-mean_is : {m : Mean} (flag : ℕ) (tenths : ℤ) → SFits w16 tenths → m ≡ mean_of flag (to_z w16 (of_z w16 tenths)) → m ≡ mean_of flag tenths
+mean_is : {m : Option ℤ} (flag : ℕ) (tenths : ℤ) → SFits w16 tenths → m ≡ mean_of flag (to_z w16 (of_z w16 tenths)) → m ≡ mean_of flag tenths
 mean_is flag tenths fits e = e ∙ ap (mean_of flag) (same fits)
 
 module _ (c : After-judge) where
@@ -61,7 +61,7 @@ returns-in-Figure c = judged_said c.before.before _ (c.packed.ensures ∙ ap ver
 pub returns-in-Refused : goal.returns-in-Refused
 returns-in-Refused c =
     judged_said c.before.before.before _
-    (c.packed-in-Refused.ensures ∙ ap (λ (k : ℕ). said k 0) c.number.ensures ∙ refusal_said c.in-Refused.why ∙ ap verdict_said (sym c.in-Refused.is))
+    (c.packed-in-Refused.ensures ∙ ap (λ (k : ℕ). said k 0) c.from.ensures ∙ refusal_said c.in-Refused.why ∙ ap verdict_said (sym c.in-Refused.is))
 
 pub returns-in-Estimated : goal.returns-in-Estimated
 returns-in-Estimated c = judged_said c.before.before _ (c.packed-in-Estimated.ensures ∙ ap verdict_said (sym c.in-Estimated.is))

@@ -5,6 +5,7 @@ use Prim.Native.Nat.{suc, ◌+◌}
 use native.Mathlib.Omega.{arith}
 use lib.IntN.{ℤ, pos, ◌+ℤ◌, +ℤ_idl, +ℤ_idr}
 use lib.ListN.{length}
+use Rattle.std.specs.Prelude.{Option, Some, None}
 use Rattle.numbers.specs.Ranges.{from◌to◌}
 use Rattle.numbers.proofs.Reflection.{MachineExpression, arg, ◌+ᵐ◌, Given, none, ◌and◌, equal_in}
 use Rattle.sheet.specs.Quantities as quantities
@@ -12,20 +13,18 @@ use Rattle.sheet.specs.StepSheet.{sum_of}
 use Rattle.sheet.proofs.Values.{ap₃}
 use Rattle.day.specs.Judgement.{with_mean, means_of, earlier_of}
 use Rattle.day.specs.Parts.{count_of, tenths_of}
-use Rattle.day.specs.declared.Mean.{Mean}
-use Rattle.day.specs.declared.Mean.TheVariants.{Present, Absent}
 use Rattle.day.specs.declared.Earlier.{Earlier}
 use Rattle.day.proofs.inputs.earlier_of.Goals as goal
 
 -- one more mean, or none, before the others
-count_with : (m : Mean) (fs : List ℤ) → count_of m +ℤ pos (length fs) ≡ pos (length (with_mean m fs))
-count_with (Present f) fs = let e : 1 + length fs ≡ suc (length fs) = omega arith in ap pos e
-count_with Absent fs = +ℤ_idl (pos (length fs))
+count_with : (m : Option ℤ) (fs : List ℤ) → count_of m +ℤ pos (length fs) ≡ pos (length (with_mean m fs))
+count_with (Some f) fs = let e : 1 + length fs ≡ suc (length fs) = omega arith in ap pos e
+count_with None fs = +ℤ_idl (pos (length fs))
 
-tenths_with : (m : Mean) (fs : List ℤ) → tenths_of m +ℤ sum_of fs ≡ sum_of (with_mean m fs)
+tenths_with : (m : Option ℤ) (fs : List ℤ) → tenths_of m +ℤ sum_of fs ≡ sum_of (with_mean m fs)
 unfolding sum_of
-tenths_with (Present f) fs = refl
-tenths_with Absent fs = +ℤ_idl (sum_of fs)
+tenths_with (Some f) fs = refl
+tenths_with None fs = +ℤ_idl (sum_of fs)
 
 abbrev sum₃ : ℤ → ℤ → ℤ → ℤ
 sum₃ a b c = a +ℤ (b +ℤ c)

@@ -3,12 +3,13 @@ use mathlib.Core.Path.{◌≡◌, sym, ◌∙◌, ap, subst}
 use native.Mathlib.Omega.{arith}
 use mir.Syntax.{w16}
 use mir.Val.{SFits}
+use Rattle.std.specs.Prelude.{Result}
 use Rattle.day.specs.Judgement.{figure_of, as_judged, with_mark, verdict_with, judged}
 use Rattle.day.specs.Bound.{SignedConstants, FigureOwed, JudgesWithinBound, FigureInRange}
 use Rattle.day.specs.declared.Station.{Station}
 use Rattle.day.specs.declared.Day.{Day}
 use Rattle.day.specs.declared.Earlier.{Earlier}
-use Rattle.day.specs.declared.Standing.{Standing}
+use Rattle.day.specs.declared.Refusal.{Refusal}
 use Rattle.day.specs.declared.Verdict.{Verdict}
 use Rattle.day.specs.declared.Verdict.TheVariants.{Refused}
 use Rattle.day.proofs.Tests.{in_word}
@@ -30,28 +31,28 @@ in_range : (st : Station) (day : Day) (earlier : Earlier) → SignedConstants st
 in_range st day earlier constants e = subst FigureInRange (sym e) (figure_in_range st day earlier constants)
 
 pub figure-requires-clause-answered : goal.figure-requires-clause-answered
-figure-requires-clause-answered c = stands_answered c.args.station c.as_judged-x.result c.args.earlier (sym c.standing.ensures ∙ c.in-Answered.is)
+figure-requires-clause-answered c = stands_answered c.args.station c.as_judged-x.result c.args.earlier (sym c.standing.ensures ∙ c.in-Ok.is)
 
-pub returns-in-Refused : goal.returns-in-Refused
+pub returns-in-Err : goal.returns-in-Err
 unfolding judged
-returns-in-Refused c =
+returns-in-Err c =
     let signed = constants c.args.station (omega arith) in
-    let e : Refused c.in-Refused.why ≡ judged c.args.station c.args.day c.args.earlier =
-    ap (λ (x : Standing). verdict_with x (with_mark c.args.day (figure_of c.args.station (as_judged c.args.day) c.args.earlier)))
-    (sym c.in-Refused.is ∙ stands_as_judged c.args.station c.args.day c.args.earlier c.standing.ensures c.as_judged-x.ensures)
+    let e : Refused c.in-Err.why ≡ judged c.args.station c.args.day c.args.earlier =
+    ap (λ (x : Result (Unit {0}) Refusal). verdict_with x (with_mark c.args.day (figure_of c.args.station (as_judged c.args.day) c.args.earlier)))
+    (sym c.in-Err.is ∙ stands_as_judged c.args.station c.args.day c.args.earlier c.standing.ensures c.as_judged-x.ensures)
     in
     record { value = e; figure_owed = owed c.args.station c.args.day c.args.earlier signed e; figure_in_range = tt }
 
-pub returns-in-Answered : goal.returns-in-Answered
+pub returns-in-Ok : goal.returns-in-Ok
 unfolding judged
-returns-in-Answered c =
+returns-in-Ok c =
     let signed = constants c.args.station (omega arith) in
     let e : c.with_mark.result ≡ judged c.args.station c.args.day c.args.earlier =
     c.with_mark.ensures
     ∙ ap (with_mark c.args.day)
     (c.figure.ensures ∙ ap (λ (y : Day). figure_of c.args.station y c.args.earlier) c.as_judged-x.ensures)
-    ∙ ap (λ (x : Standing). verdict_with x (with_mark c.args.day (figure_of c.args.station (as_judged c.args.day) c.args.earlier)))
-    (sym c.in-Answered.is ∙ stands_as_judged c.args.station c.args.day c.args.earlier c.standing.ensures c.as_judged-x.ensures)
+    ∙ ap (λ (x : Result (Unit {0}) Refusal). verdict_with x (with_mark c.args.day (figure_of c.args.station (as_judged c.args.day) c.args.earlier)))
+    (sym c.in-Ok.is ∙ stands_as_judged c.args.station c.args.day c.args.earlier c.standing.ensures c.as_judged-x.ensures)
     in
     record {
       value = e;

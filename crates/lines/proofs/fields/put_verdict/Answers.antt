@@ -22,7 +22,7 @@ put_byte-start-requires c = omega (arith, ap size c.in-Refused.is)
 
 pub put_digits-requires : goal.put_digits-requires
 unfolding verdict_text
-put_digits-requires c = omega (arith, ap size c.in-Refused.is, ap (λ (n : ℕ). length (digits n)) c.number.ensures)
+put_digits-requires c = omega (arith, ap size c.in-Refused.is, ap (λ (n : ℕ). length (digits n)) c.from.ensures)
 
 -- a figure with the mark: the inches, a space and an E
 pub put_inches-inches_end-requires : goal.put_inches-inches_end-requires
@@ -40,7 +40,7 @@ returns-in-Figure c = rw c.in-Figure.is c.put_inches.ensures
 
 pub returns-in-Refused : goal.returns-in-Refused
 unfolding verdict_text
-returns-in-Refused c = rw (c.in-Refused.is, ← c.number.ensures) (then c.put_byte-start.ensures c.put_digits.ensures)
+returns-in-Refused c = rw (c.in-Refused.is, ← c.from.ensures) (then c.put_byte-start.ensures c.put_digits.ensures)
 
 pub returns-in-Estimated : goal.returns-in-Estimated
 unfolding verdict_text
