@@ -1,7 +1,6 @@
 // What the step sheet is worked from, of a station, a day and the earlier means.
 ghost use Rattle.std.specs.Prelude.{false, ◌≡◌, ◌≤◌, pos};
 ghost use Rattle.numbers.specs.Ranges.{InRange, from◌to◌};
-ghost use Rattle.tables.specs.Tables.{DayTables, PressureTable};
 ghost use Rattle.tables.specs.Values.{pressure_at};
 ghost use Rattle.sheet.specs.Quantities as quantities;
 ghost use Rattle.sheet.specs.Accepted.{EarlierInRange};
@@ -11,6 +10,7 @@ ghost use Rattle.day.specs.Parts.{count_of, tenths_of};
 
 use crate::{Day, Station};
 use sheet::{Entries, Readings};
+use tables::DayTable;
 
 // A reading or a constant of two bytes, signed, as the sheet takes it.
 pub fn wide(x: i16) -> i64
@@ -49,31 +49,25 @@ pub fn readings_of(day: Day) -> Readings
 }
 
 // The pressure p at the elevation.
-fn pressure_at(pressures: &[u32; 3001], elevation: u16) -> i64
-    requires { PressureTable pressures.now × (elevation ≤ 3000) }
+fn pressure_at(elevation: u16) -> i64
+    requires { elevation ≤ 3000 }
     ensures { (result ≡ pos (pressure_at elevation)) × InRange quantities.pressure result }
 {
-    wide_entry(tables::pressure(pressures, elevation as usize))
+    wide_entry(tables::pressure(elevation as usize))
 }
 
 // The tables' entries at the day d and at the elevation.
-pub fn entries_at(
-    days: &[[u32; 366]; 4],
-    pressures: &[u32; 3001],
-    d: u16,
-    elevation: u16,
-) -> Entries
-    requires day_tables { DayTables days.now × PressureTable pressures.now }
-    requires le_d { (1 ≤ d) × (d ≤ 366) × (elevation ≤ 3000) }
+pub fn entries_at(d: u16, elevation: u16) -> Entries
+    requires { (1 ≤ d) × (d ≤ 366) × (elevation ≤ 3000) }
     ensures { result ≡ entries_at d elevation }
 {
     let day = d as usize;
     Entries {
-        albedo: wide_entry(tables::albedo(&days[0], day)),
-        a1: wide_entry(tables::a1(&days[1], day)),
-        aw: wide_entry(tables::aw(&days[2], day)),
-        bw: wide_entry(tables::bw(&days[3], day)),
-        p: pressure_at(pressures, elevation),
+        albedo: wide_entry(DayTable::Albedo.entry(day)),
+        a1: wide_entry(DayTable::A1.entry(day)),
+        aw: wide_entry(DayTable::Aw.entry(day)),
+        bw: wide_entry(DayTable::Bw.entry(day)),
+        p: pressure_at(elevation),
     }
 }
 

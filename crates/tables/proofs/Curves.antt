@@ -13,7 +13,7 @@ use Rattle.numbers.specs.Fractions.{ℚ, ◌+ℚ◌, ◌*ℚ◌}
 use Rattle.numbers.proofs.Order.{nonneg_mul, nonneg_ratio, <ℚ_ratio}
 use Rattle.numbers.proofs.WholeFractions.{nonneg_ℕ}
 use Rattle.tables.specs.Series.{NearestOfSeries}
-use Rattle.tables.specs.Tables.{billionth, DayTable}
+use Rattle.tables.specs.Tables.{billionth, Entry}
 use Rattle.tables.specs.Values.{Enclosure, Curve, rounded, curve_at}
 use Rattle.numbers.proofs.StrictOrder.{whole}
 use Rattle.numbers.proofs.RangeArithmetic.{both}
@@ -75,11 +75,15 @@ curve_values range c b s Rule rule test =
 
 -- ---- a table of 366 entries that are the values
 
+-- the table, the day 1 first: the value, the rule and the range of each of its entries
+pub record DayEntries (value : ℕ → ℕ) (Rule : ℕ → ℕ → Type 0) (range : Range) (t : List ℕ) : Type 0 where
+  pub entries : (d : ℕ) → 1 ≤ d → d ≤ 366 → Entry (value d) (Rule d) range (get_or t (d - 1) 0)
+
 abbrev pub value_test : (ℕ → ℕ) → ℕ → ℕ → Bool
 value_test value d r = eqb r (value d)
 
 pub table_of_values : {value : ℕ → ℕ} {Rule : ℕ → ℕ → Type 0} {range : Range} → DayValues value Rule range →
-    (xs : List ℕ) → length xs ≡ 366 → T (every (value_test value) 1 xs) → DayTable value Rule range xs
+    (xs : List ℕ) → length xs ≡ 366 → T (every (value_test value) 1 xs) → DayEntries value Rule range xs
 table_of_values {value} {Rule} {range} values xs n test =
     record {
       entries = λ d l h.

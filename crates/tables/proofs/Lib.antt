@@ -11,5 +11,6 @@ pub mod DayRules
 pub mod PowerTests
 pub mod PressureEntries
 pub mod PressureValues
+pub mod WholeTables
 pub mod ValueRanges
 pub mod OwnValues

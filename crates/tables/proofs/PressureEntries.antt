@@ -15,7 +15,7 @@ use Rattle.numbers.proofs.RatioTests.{eqᴿ}
 use Rattle.numbers.specs.Ranges.{InRange, in_range}
 use Rattle.numbers.specs.Fractions.{ℚ, fraction, ◌+ℚ◌, ◌*ℚ◌, ◌-ℚ◌}
 use Rattle.numbers.proofs.FractionSolver.{ring_ℚ, ◌#◌}
-use Rattle.tables.specs.Tables.{pressure_ratio, PressureEntry, pressure_range, Entry, PressureTable}
+use Rattle.tables.specs.Tables.{pressure_ratio, PressureEntry, pressure_range, Entry}
 use Rattle.tables.specs.Values.{first, ratio_numerator, ratio_denominator, sea_level, pressure_at}
 use Rattle.numbers.proofs.StrictOrder.{whole, whole_mul, whole_odd, whole_sub, over_cancels}
 use Rattle.numbers.proofs.FractionPowers.{powers_below}
@@ -79,6 +79,10 @@ pressure_rule e r h p near =
 
 -- ---- the table
 
+-- the table, by the metre: each of its 3,001 entries, from 0 on
+pub record PressureEntries (t : List ℕ) : Type 0 where
+  pub entries : (e : ℕ) → e ≤ 3000 → Entry (pressure_at e) (PressureEntry e) pressure_range (get_or t e 0)
+
 abbrev pub fixed_test : ℕ → ℕ → Bool
 fixed_test e r = power_test 100000000000000000000 sea_level (ratio_numerator e) ratio_denominator r
 
@@ -105,6 +109,6 @@ pressure_entry e r l test =
     }
 
 -- a table of 3,001 entries that all pass the test
-pub pressure_table : (xs : List ℕ) → length xs ≡ 3001 → T (every pressure_test 0 xs) → PressureTable xs
+pub pressure_table : (xs : List ℕ) → length xs ≡ 3001 → T (every pressure_test 0 xs) → PressureEntries xs
 pressure_table xs n test =
     record { entries = λ e l. pressure_entry e (get_or xs e 0) l (entry_passes pressure_test 0 xs test e e (omega arith) (omega arith)) }

@@ -1,9 +1,11 @@
 -- What each entry of the five constant tables is: the published formulas, in document 01's order. Assumes nothing.
-use Rattle.std.specs.Prelude.{◌≡◌, List, [], ℕ, ◌-◌, ◌≤◌, pos, get_or}
+use Rattle.std.specs.Prelude.{◌≡◌, ℕ, pos}
 use Rattle.numbers.specs.Ranges.{Range, InRange, from◌to◌}
 use Rattle.numbers.specs.Fractions.{ℚ, from_ℤ, ◌/ℚ◌, ◌+ℚ◌, ◌-ℚ◌, ◌*ℚ◌, ◌^ℚ◌, ◌≤ℚ◌, ◌<ℚ◌}
 use Rattle.tables.specs.Series.{exp_term, sin_term, Formula, NearestOfSeries}
-use Rattle.tables.specs.Values.{albedo_at, a1_at, aw_at, bw_at, pressure_at}
+use Rattle.tables.specs.Values.{albedo_at, a1_at, aw_at, bw_at}
+use Rattle.tables.specs.declared.DayTable.{DayTable}
+use Rattle.tables.specs.declared.DayTable.TheVariants.{Albedo, A1, Aw, Bw}
 
 -- the unit of the four day tables
 abbrev pub billionth : ℚ
@@ -89,31 +91,22 @@ bw_range = from 7000000 to 11000000
 abbrev pub pressure_range : Range
 pressure_range = from 700000 to 1013000
 
--- ---- what a table is: each of its entries meets the rule
+-- ---- the four tables of days: the value of an entry, its rule and its range
 
--- a table of days, the day 1 first: the value, the rule and the range of each of its 366 entries
-pub record DayTable (value : ℕ → ℕ) (Rule : ℕ → ℕ → Type 0) (range : Range) (t : List ℕ) : Type 0 where
-  pub entries : (d : ℕ) → 1 ≤ d → d ≤ 366 → Entry (value d) (Rule d) range (get_or t (d - 1) 0)
+abbrev pub day_value : DayTable → ℕ → ℕ
+day_value Albedo = albedo_at
+day_value A1 = a1_at
+day_value Aw = aw_at
+day_value Bw = bw_at
 
-abbrev pub AlbedoTable : List ℕ → Type 0
-AlbedoTable = DayTable albedo_at AlbedoEntry albedo_range
+abbrev pub DayRule : DayTable → ℕ → ℕ → Type 0
+DayRule Albedo = AlbedoEntry
+DayRule A1 = A1Entry
+DayRule Aw = AwEntry
+DayRule Bw = BwEntry
 
-abbrev pub A1Table : List ℕ → Type 0
-A1Table = DayTable a1_at A1Entry a1_range
-
-abbrev pub AwTable : List ℕ → Type 0
-AwTable = DayTable aw_at AwEntry aw_range
-
-abbrev pub BwTable : List ℕ → Type 0
-BwTable = DayTable bw_at BwEntry bw_range
-
--- the table of pressures, by the metre: 3,001 entries from 0 on
-pub record PressureTable (t : List ℕ) : Type 0 where
-  pub entries : (e : ℕ) → e ≤ 3000 → Entry (pressure_at e) (PressureEntry e) pressure_range (get_or t e 0)
-
--- the four tables of days together: albedo, a1, aw and bw
-pub record DayTables (t : List (List ℕ)) : Type 0 where
-  pub albedo : AlbedoTable (get_or t 0 [])
-  pub a1 : A1Table (get_or t 1 [])
-  pub aw : AwTable (get_or t 2 [])
-  pub bw : BwTable (get_or t 3 [])
+abbrev pub day_range : DayTable → Range
+day_range Albedo = albedo_range
+day_range A1 = a1_range
+day_range Aw = aw_range
+day_range Bw = bw_range

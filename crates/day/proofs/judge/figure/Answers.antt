@@ -41,16 +41,16 @@ module _ (st : Station) (day : Day) (earlier : Earlier) (answered : Answered st 
   unfolding holds
   not_above_twice = none_holds AboveClear
 
-pub entries_at-t-requires-clause-le_d : goal.entries_at-t-requires-clause-le_d
-entries_at-t-requires-clause-le_d c = (
-  low c.args.station c.args.day c.args.earlier c.requires.answered,
-  high c.args.station c.args.day c.args.earlier c.requires.answered,
-  elevation c.args.station c.args.day c.args.earlier c.requires.answered,
+pub entries_at-t-requires : goal.entries_at-t-requires
+entries_at-t-requires c = (
+  low c.args.station c.args.day c.args.earlier c.requires,
+  high c.args.station c.args.day c.args.earlier c.requires,
+  elevation c.args.station c.args.day c.args.earlier c.requires,
 )
 
 pub earlier_of-means-requires : goal.earlier_of-means-requires
 earlier_of-means-requires c =
-    let out_of_range = none_holds c.args.station c.args.day c.args.earlier c.requires.answered OutOfRange in (
+    let out_of_range = none_holds c.args.station c.args.day c.args.earlier c.requires OutOfRange in (
       one_passed c.args.station c.args.day c.args.earlier out_of_range,
       two_passed c.args.station c.args.day c.args.earlier out_of_range,
       three_passed c.args.station c.args.day c.args.earlier out_of_range,
@@ -58,28 +58,28 @@ earlier_of-means-requires c =
 
 pub clear_of-q-requires : goal.clear_of-q-requires
 clear_of-q-requires c = (
-  low c.args.station c.args.day c.args.earlier c.requires.answered,
-  high c.args.station c.args.day c.args.earlier c.requires.answered,
-  (minimum c.args.station c.args.day c.args.earlier c.requires.answered).bounds.0,
-  (minimum c.args.station c.args.day c.args.earlier c.requires.answered).bounds.1,
+  low c.args.station c.args.day c.args.earlier c.requires,
+  high c.args.station c.args.day c.args.earlier c.requires,
+  (minimum c.args.station c.args.day c.args.earlier c.requires).bounds.0,
+  (minimum c.args.station c.args.day c.args.earlier c.requires).bounds.1,
 )
 
 pub figure-requires : goal.figure-requires
 unfolding readings_of
 figure-requires c =
-    let none = none_holds c.args.station c.args.day c.args.earlier c.requires.answered in
+    let none = none_holds c.args.station c.args.day c.args.earlier c.requires in
     let radiation = ap (λ r. r.radiation) c.readings_of-x.ensures in
     let q = given_back c.clear_of-q.ensures tt in (
       subst ReadingsInRange (sym c.readings_of-x.ensures) (readings_in c.args.station c.args.day c.args.earlier (none OutOfRange)),
       subst EntriesInRange (sym c.entries_at-t.ensures)
           (entries_in c.args.day.d c.args.station.elevation
-          (low c.args.station c.args.day c.args.earlier c.requires.answered)
-          (high c.args.station c.args.day c.args.earlier c.requires.answered)
-          (elevation c.args.station c.args.day c.args.earlier c.requires.answered)),
+          (low c.args.station c.args.day c.args.earlier c.requires)
+          (high c.args.station c.args.day c.args.earlier c.requires)
+          (elevation c.args.station c.args.day c.args.earlier c.requires)),
       c.earlier_of-means.ensures.1,
       record {
         range = keep c.clear_of-q.ensures.1 tt;
-        below = (λ i. sheet.above_twice_clear (radiation i) (q i)) ∙ not_above_twice c.args.station c.args.day c.args.earlier c.requires.answered;
+        below = (λ i. sheet.above_twice_clear (radiation i) (q i)) ∙ not_above_twice c.args.station c.args.day c.args.earlier c.requires;
       },
       subst (InRange quantities.wind_limit) (sym (given_back c.wide_unsigned-limit.ensures tt))
           (limit_in c.args.station c.args.day c.args.earlier (none StationField)),

@@ -1,4 +1,4 @@
--- `day::judge::judge_by` meets its contract: what refuses the day, or else its figure, which is within the bound and in its range. Assumes nothing.
+-- `day::judge::judge` meets its contract: what refuses the day, or else its figure, which is within the bound and in its range. Assumes nothing.
 use mathlib.Core.Path.{◌≡◌, sym, ◌∙◌, ap, subst}
 use native.Mathlib.Omega.{arith}
 use mir.Syntax.{w16}
@@ -16,7 +16,7 @@ use Rattle.day.proofs.Tests.{in_word}
 use Rattle.day.proofs.Standings.{stands_answered, stands_as_judged}
 use Rattle.day.proofs.DayBound.{judged_within_bound}
 use Rattle.day.proofs.FigureLimit.{figure_in_range}
-use Rattle.day.proofs.judge.judge_by.Goals as goal
+use Rattle.day.proofs.judge.judge.Goals as goal
 
 constants : (st : Station) → SFits w16 st.c1 × SFits w16 st.c2 × SFits w16 st.c3 × SFits w16 st.c4 × SFits w16 st.c5 → SignedConstants st
 constants st h =
@@ -30,8 +30,8 @@ owed st day earlier constants e = subst (FigureOwed st day earlier) (sym e) (jud
 in_range : (st : Station) (day : Day) (earlier : Earlier) → SignedConstants st → {v : Verdict} → v ≡ judged st day earlier → FigureInRange v
 in_range st day earlier constants e = subst FigureInRange (sym e) (figure_in_range st day earlier constants)
 
-pub figure-requires-clause-answered : goal.figure-requires-clause-answered
-figure-requires-clause-answered c = stands_answered c.args.station c.as_judged-x.result c.args.earlier (sym c.standing.ensures ∙ c.in-Ok.is)
+pub figure-requires : goal.figure-requires
+figure-requires c = stands_answered c.args.station c.as_judged-x.result c.args.earlier (sym c.standing.ensures ∙ c.in-Ok.is)
 
 pub returns-in-Err : goal.returns-in-Err
 unfolding judged
