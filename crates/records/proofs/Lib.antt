@@ -6,4 +6,3 @@ pub mod Bodies
 pub mod FoundThere
 pub mod Part
 pub mod Examples
-pub mod Held
