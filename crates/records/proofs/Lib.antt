@@ -1,6 +1,7 @@
 -- The lemmas that belong to no one function.
 pub mod Choice
 pub mod Signed
+pub mod Stages
 pub mod Alike
 pub mod Bodies
 pub mod FoundThere
