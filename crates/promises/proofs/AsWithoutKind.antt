@@ -12,13 +12,14 @@ use Rattle.answers.specs.Answers.{bytes_of}
 use Rattle.records.specs.Record.{unknown, found_at}
 use Rattle.station_log.specs.Log.{Past, unopened, past, answers_in, Step, ends, faulty, holds, step_of, step_at}
 use Rattle.station_log.specs.Log.{Reading, refused, prepend, onward, read_from, reading_of, settled, longest, outcome_of, leaves, buffer_after}
-use Rattle.station_log.specs.declared.Outcome.TheVariants.{Refused}
+use Rattle.station_log.specs.Log.{refusal}
 use Rattle.promises.proofs.WithoutKind.{found_without, read_without, reading_without, outcome_without, buffer_without, Without, AsWithout}
+use Rattle.station_log.specs.declared.Fault.TheVariants.{UnknownKind, TooLong}
 
 module _ (kind : ℕ) (s : List ℕ) where
   -- it is not for a record of the kind that the log was refused from an offset on
   abbrev Clear : Reading → Type 0
-  Clear r = (k : ℕ) → r ≡ refused 1 k → get_or s k 0 ≢ kind
+  Clear r = (k : ℕ) → r ≡ refused UnknownKind k → get_or s k 0 ≢ kind
 
   -- of at most n records, from every offset
   abbrev Rest : ℕ → Type 0
@@ -49,5 +50,5 @@ module _ (kind : ℕ) (s : List ℕ) where
   unfolding outcome_of buffer_after outcome_without buffer_without
   as_without without buffer =
       let same = read_without_lem without in
-      let outcome = ap (λ (r : Reading). cond (ltb longest (length s)) (Refused 5 0) (settled r (length buffer))) same in
+      let outcome = ap (λ (r : Reading). cond (ltb longest (length s)) (refusal TooLong 0) (settled r (length buffer))) same in
       record { outcome = outcome; written = λ i. leaves (outcome i) (bytes_of (answers_in (same i))) buffer }

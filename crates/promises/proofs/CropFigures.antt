@@ -4,6 +4,7 @@ use mathlib.Core.Path.{◌≡◌, refl, sym, ap, ◌∙◌, subst}
 use mathlib.Core.Bool.{Bool, false, cond}
 use mathlib.Core.List.{List, [], ◌∷◌}
 use Prim.Native.Nat.{ℕ}
+use Rattle.station_log.specs.Log.{Outcome}
 use Rattle.crops.specs.Crop.{bad_crop, crop_figure}
 use Rattle.crops.specs.declared.Crop.{Crop}
 use Rattle.crops.proofs.CropBound.{crop_within_bound, crop_within_proved}
@@ -21,7 +22,6 @@ use Rattle.answers.specs.declared.Answer.TheVariants as answer
 use Rattle.promises.specs.CropFigures.{CropDay, CropFigureAt, CropFiguresOwed}
 use Rattle.promises.specs.Demand.{AnsweredLog, NotRefused, FiguresOwed}
 use Rattle.station_log.specs.Log.{Planted, planted, crop_answer, crop_answers, buffer_after, Read}
-use Rattle.station_log.specs.declared.Outcome.{Outcome}
 use Rattle.promises.proofs.Days.{answer_at, crop_answer_at}
 use Rattle.promises.proofs.Demand.{marked_bytes, answered, not_refused, log_within_bound}
 use Rattle.station_log.proofs.SoundStation.{station_constants}

@@ -15,7 +15,7 @@ use Rattle.answers.specs.Answers.{day_answer, answer_bytes, bytes_of}
 use Rattle.promises.specs.Days.{DayAt}
 use Rattle.station_log.specs.History.{verdict_of}
 use Rattle.station_log.specs.Log.{day, crop_answers, answers_of, outcome_of, buffer_after}
-use Rattle.station_log.specs.declared.Outcome.TheVariants.{Written}
+use Rattle.std.specs.Prelude.{Ok}
 use Rattle.answers.specs.declared.Answer.{Answer}
 use Rattle.station_log.proofs.Means.{good_date_lem}
 use Rattle.promises.proofs.RecordPlaces.{part_at, rest, about_record}
@@ -35,7 +35,7 @@ module _ {s : List ℕ} {i : ℕ} {x : Station} {y : Day} {earlier : Earlier} {g
   verdict_is = rw (d.stationed, d.means, d.dated)
 
   -- the answers before it, its own, the crop's, and all that stands behind
-  module _ (buffer : List ℕ) {n : ℕ} (e : outcome_of s (length buffer) ≡ Written n) where
+  module _ (buffer : List ℕ) {n : ℕ} (e : outcome_of s (length buffer) ≡ Ok n) where
     abbrev front : List ℕ
     front = bytes_of (answers_of d.before)
 

@@ -15,10 +15,11 @@ use Rattle.records.proofs.Part.{Part, rest_part}
 use Rattle.station_log.specs.Log.{Past, block, opened, station, fault, enters, goes_to, step_of, Reading, refused, prepend, onward, read_from}
 use Rattle.station_log.proofs.Steps.{steps_enough}
 use Rattle.promises.proofs.TwoParts.{moved, read_last}
+use Rattle.station_log.specs.declared.Fault.TheVariants.{StationField}
 
 -- the reading of a log that begins with a station's record of n bytes
 unfoldable pub opened_by : ℕ → Past → Station → List ℕ → Reading
-opened_by n q x rest = cond (bad_station x) (refused 3 0) (prepend (station q x) (moved n (read_from (length rest + 1) rest 0 (block (opened x)))))
+opened_by n q x rest = cond (bad_station x) (refused StationField 0) (prepend (station q x) (moved n (read_from (length rest + 1) rest 0 (block (opened x)))))
 
 -- a kind byte, the fields, and what else the record has
 module _ (kind : ℕ) (fields more rest : List ℕ) where
@@ -61,7 +62,7 @@ module _ (kind : ℕ) (fields more rest : List ℕ) where
         ∙ ap (λ (r : Record). onward (step_of (found_in log r) q) 0 (read_from (length log) log)) is
         ∙ by (bad_station x)
       where
-        by : (b : Bool) → onward (goes_to n (cond b (fault 3) (enters (station q x)))) 0 (read_from (length log) log)
-            ≡ cond b (refused 3 0) (prepend (station q x) (moved n (read_from (length rest + 1) rest 0 (block (opened x)))))
+        by : (b : Bool) → onward (goes_to n (cond b (fault StationField) (enters (station q x)))) 0 (read_from (length log) log)
+            ≡ cond b (refused StationField 0) (prepend (station q x) (moved n (read_from (length rest + 1) rest 0 (block (opened x)))))
         by true = refl
         by false = ap (prepend (station q x)) (rest_read (block (opened x)))

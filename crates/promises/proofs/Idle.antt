@@ -22,8 +22,9 @@ use Rattle.records.specs.Bytes.{word_at, signed_of, signed_at}
 use Rattle.records.specs.Record.{station_at, day_at, record_at}
 use Rattle.promises.specs.Demand.{AnsweredLog, FigureAt, NotRefused, FiguresOwed, EveryFigureWithinBound}
 use Rattle.station_log.specs.Log.{read_from, reading_of, outcome_of}
-use Rattle.station_log.specs.declared.Outcome.{Outcome}
-use Rattle.station_log.specs.declared.Outcome.TheVariants.{Written, Refused}
+use Rattle.std.specs.Prelude.{Ok, Err}
+use Rattle.station_log.specs.Log.{Outcome}
+use Rattle.station_log.specs.declared.Refused.{Refused}
 use Rattle.station_log.proofs.Sample.{sample, two_means}
 use Rattle.promises.proofs.WorkedCrop.{crop_log, crop_day, other_means, second_day, outcome_is}
 use Rattle.promises.proofs.WorkedLog.{means, answered}
@@ -42,8 +43,8 @@ no_other k three nine x n = either_way (λ v. k ≡ kind_of v → ⊥) x {n = n}
 
 -- 1 for a log that is written, 0 for one that is refused
 abbrev written : Outcome → ℕ
-written (Written n) = 1
-written (Refused k at) = 0
+written (Ok n) = 1
+written (Err r) = 0
 
 -- the figure that stands in an answer: its four bytes as a number
 abbrev in_bytes : ℕ → ℕ → ℕ → ℕ → ℕ
@@ -85,9 +86,9 @@ module _ (returned : List ℕ → List ℕ → Outcome) (left : List ℕ → Lis
       kind_there 0 (λ e. absurd (omega (arith, e))) (λ e. absurd (omega (arith, e))) (ap (λ (l : List ℕ). get_or (take 9 (drop 23 l)) 0 0) (sym same))
 
   -- "one saying 12 untried"
-  pub not_twelve : (k at : ℕ) → returned sample blank ≡ Refused k at → ⊥
+  pub not_twelve : (r : Refused) → returned sample blank ≡ Err r → ⊥
   unfolding EveryFigureWithinBound NotRefused
-  not_twelve k at says =
+  not_twelve r says =
       let owed = (met.0 sample blank).0 accepted_there in
       let one : ◌≡◌ {A = ℕ} 0 1 = ap written (sym says) ∙ ap written owed.1 in absurd (omega (arith, one))
 

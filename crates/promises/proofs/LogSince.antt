@@ -14,43 +14,50 @@ use Rattle.answers.specs.declared.Answer.{Answer}
 use Rattle.answers.proofs.Bytes.{bytes_append, bytes_longer}
 use Rattle.station_log.specs.Log.{Entry, unopened, past_all, answers_of, answers_at_end, all_answers, answers_in, Reading, refused, accepted, reading_of, fitted, settled, longest, outcome_of, leaves, buffer_after}
 use Rattle.station_log.specs.Parts.{entries_of}
-use Rattle.station_log.specs.declared.Outcome.{Outcome}
-use Rattle.station_log.specs.declared.Outcome.TheVariants.{Written, Refused}
-use Rattle.station_log.proofs.OutcomeSize.{number_in}
+use Rattle.std.specs.Prelude.{Ok, Err}
+use Rattle.station_log.specs.Log.{number_of_fault, Outcome, refusal}
 use Rattle.promises.proofs.AnswersSince.{answers_stay, substituted, all_longer, all_stay}
 use Rattle.promises.proofs.RecordPlaces.{part_at, own_answers}
 use Rattle.promises.proofs.WithoutSubstitute.{answers_strictly, of_records, all_strictly, settled_strictly, outcome_strictly, buffer_strictly, AllStay, added_to, Places, Since}
+use Rattle.station_log.specs.declared.Fault.{Fault}
+use Rattle.station_log.specs.declared.Refused.{Refused}
+use Rattle.station_log.specs.declared.Fault.TheVariants.{TooLong, ShortBuffer}
 
 -- ---- what the office hands back
 
-impossible : {A : Type 0} {k at n : ℕ} → Refused k at ≡ Written n → A
+impossible : {A : Type 0} {r : Refused} {n : ℕ} → ◌≡◌ {A = Outcome} (Err r) (Ok n) → A
 impossible e = let z : ◌≡◌ {A = ℕ} 0 1 = cc in absurd (omega arith)
 
 abbrev length_in : Outcome → ℕ
-length_in (Written n) = n
-length_in (Refused k at) = 0
+length_in (Ok n) = n
+length_in (Err r) = 0
 
 abbrev place_in : Outcome → ℕ
-place_in (Written n) = 0
-place_in (Refused k at) = at
+place_in (Ok n) = 0
+place_in (Err r) = r.place
 
-fits : (size n : ℕ) → n ≤ size → fitted size n ≡ Written n
-fits size n enough = ap (λ (b : Bool). cond b (Refused 12 n) (Written n)) (le-ltb size n enough)
+-- the refusal, or some other where there is none
+abbrev fault_in : Outcome → Fault
+fault_in (Ok n) = TooLong
+fault_in (Err r) = r.why
 
-too_short : (size n : ℕ) → size < n → fitted size n ≡ Refused 12 n
-too_short size n less = ap (λ (b : Bool). cond b (Refused 12 n) (Written n)) (lt-ltb size n less)
+fits : (size n : ℕ) → n ≤ size → fitted size n ≡ Ok n
+fits size n enough = ap (λ (b : Bool). cond b (refusal ShortBuffer n) (Ok n)) (le-ltb size n enough)
 
-fitted_length : (size n : ℕ) {m : ℕ} → fitted size n ≡ Written m → (n ≤ size) × (n ≡ m)
+too_short : (size n : ℕ) → size < n → fitted size n ≡ refusal ShortBuffer n
+too_short size n less = ap (λ (b : Bool). cond b (refusal ShortBuffer n) (Ok n)) (lt-ltb size n less)
+
+fitted_length : (size n : ℕ) {m : ℕ} → fitted size n ≡ Ok m → (n ≤ size) × (n ≡ m)
 fitted_length size n {m} told = by (ltb size n) refl told
   where
-    by : (b : Bool) → ltb size n ≡ b → cond b (Refused 12 n) (Written n) ≡ Written m → (n ≤ size) × (n ≡ m)
+    by : (b : Bool) → ltb size n ≡ b → cond b (refusal ShortBuffer n) (Ok n) ≡ Ok m → (n ≤ size) × (n ≡ m)
     by true e told = impossible told
     by false e told = (ltb-false size n e, ap length_in told)
 
-fitted_short : (size n : ℕ) {m : ℕ} → fitted size n ≡ Refused 12 m → (size < n) × (n ≡ m)
+fitted_short : (size n : ℕ) {m : ℕ} → fitted size n ≡ refusal ShortBuffer m → (size < n) × (n ≡ m)
 fitted_short size n {m} told = by (ltb size n) refl told
   where
-    by : (b : Bool) → ltb size n ≡ b → cond b (Refused 12 n) (Written n) ≡ Refused 12 m → (size < n) × (n ≡ m)
+    by : (b : Bool) → ltb size n ≡ b → cond b (refusal ShortBuffer n) (Ok n) ≡ refusal ShortBuffer m → (size < n) × (n ≡ m)
     by true e told = (ltb-true size n e, ap place_in told)
     by false e told = impossible (sym told)
 
@@ -72,30 +79,30 @@ answers_about before later e =
 
 module _ (s : List ℕ) where
   abbrev unless_long : Bool → Outcome → Outcome
-  unless_long long o = cond long (Refused 5 0) o
+  unless_long long o = cond long (refusal TooLong 0) o
 
-  refusals : (size k at : ℕ) → k ≢ 12 → outcome_strictly s size ≡ Refused k at → outcome_of s size ≡ Refused k at
+  refusals : (size : ℕ) (k : Fault) (at : ℕ) → k ≢ ShortBuffer → outcome_strictly s size ≡ refusal k at → outcome_of s size ≡ refusal k at
   unfolding outcome_strictly outcome_of
   refusals size k at other = by (ltb longest (length s)) (reading_of s)
     where
-      not_so : (n : ℕ) {o : Outcome} → fitted size n ≡ Refused k at → o ≡ Refused k at
+      not_so : (n : ℕ) {o : Outcome} → fitted size n ≡ refusal k at → o ≡ refusal k at
       not_so n {o} told = by_test (ltb size n) told
         where
-          by_test : (b : Bool) → cond b (Refused 12 n) (Written n) ≡ Refused k at → o ≡ Refused k at
-          by_test true told = absurd (other (sym (ap number_in told)))
+          by_test : (b : Bool) → cond b (refusal ShortBuffer n) (Ok n) ≡ refusal k at → o ≡ refusal k at
+          by_test true told = absurd (other (sym (ap fault_in told)))
           by_test false told = impossible (sym told)
 
-      by : (long : Bool) (r : Reading) → unless_long long (settled_strictly r size) ≡ Refused k at → unless_long long (settled r size) ≡ Refused k at
+      by : (long : Bool) (r : Reading) → unless_long long (settled_strictly r size) ≡ refusal k at → unless_long long (settled r size) ≡ refusal k at
       by true r told = told
       by false (refused j place) told = told
       by false (accepted es) told = not_so (length (bytes_of (all_strictly es))) told
 
-  written : (size m : ℕ) → outcome_strictly s size ≡ Written m
+  written : (size m : ℕ) → outcome_strictly s size ≡ Ok m
       → let n = m + 9 * added_to (entries_of (reading_of s)) in outcome_of s size ≡ fitted size n
   unfolding outcome_strictly outcome_of
   written size m = by (ltb longest (length s)) (reading_of s)
     where
-      by : (long : Bool) (r : Reading) → unless_long long (settled_strictly r size) ≡ Written m → unless_long long (settled r size) ≡ fitted size (m + 9 * added_to (entries_of r))
+      by : (long : Bool) (r : Reading) → unless_long long (settled_strictly r size) ≡ Ok m → unless_long long (settled r size) ≡ fitted size (m + 9 * added_to (entries_of r))
       by true r told = impossible told
       by false (refused k place) told = impossible told
       by false (accepted es) told =
@@ -103,24 +110,24 @@ module _ (s : List ℕ) where
           omega (arith, needs_more es, (fitted_length size (length (bytes_of (all_strictly es))) told).1) in
           ap (fitted size) needed
 
-  short : (size m : ℕ) → outcome_strictly s size ≡ Refused 12 m → outcome_of s size ≡ Refused 12 (m + 9 * added_to (entries_of (reading_of s)))
+  short : (size m : ℕ) → outcome_strictly s size ≡ refusal ShortBuffer m → outcome_of s size ≡ refusal ShortBuffer (m + 9 * added_to (entries_of (reading_of s)))
   unfolding outcome_strictly outcome_of
   short size m = by (ltb longest (length s)) (reading_of s)
     where
-      by : (long : Bool) (r : Reading) → unless_long long (settled_strictly r size) ≡ Refused 12 m → unless_long long (settled r size) ≡ Refused 12 (m + 9 * added_to (entries_of r))
-      by true r told = absurd (omega (arith, ap number_in told))
-      by false (refused k place) told = told ∙ ap (Refused 12) (omega arith)
+      by : (long : Bool) (r : Reading) → unless_long long (settled_strictly r size) ≡ refusal ShortBuffer m → unless_long long (settled r size) ≡ refusal ShortBuffer (m + 9 * added_to (entries_of r))
+      by true r told = absurd (omega (arith, ap (λ (o : Outcome). number_of_fault (fault_in o)) told))
+      by false (refused k place) told = told ∙ ap (refusal ShortBuffer) (omega arith)
       by false (accepted es) told =
           let then-short = fitted_short size (length (bytes_of (all_strictly es))) told in
           too_short size (length (bytes_of (all_answers es))) (omega (arith, needs_more es, then-short.0))
-          ∙ ap (Refused 12) (omega (arith, needs_more es, then-short.1))
+          ∙ ap (refusal ShortBuffer) (omega (arith, needs_more es, then-short.1))
 
   -- a buffer that is long enough was long enough
-  enough : (size n : ℕ) → outcome_of s size ≡ Written n → (m : ℕ) × (outcome_strictly s size ≡ Written m)
+  enough : (size n : ℕ) → outcome_of s size ≡ Ok n → (m : ℕ) × (outcome_strictly s size ≡ Ok m)
   unfolding outcome_strictly outcome_of
   enough size n = by (ltb longest (length s)) (reading_of s)
     where
-      by : (long : Bool) (r : Reading) → unless_long long (settled r size) ≡ Written n → (m : ℕ) × (unless_long long (settled_strictly r size) ≡ Written m)
+      by : (long : Bool) (r : Reading) → unless_long long (settled r size) ≡ Ok n → (m : ℕ) × (unless_long long (settled_strictly r size) ≡ Ok m)
       by true r told = impossible told
       by false (refused k place) told = impossible told
       by false (accepted es) told =
@@ -130,7 +137,7 @@ module _ (s : List ℕ) where
   -- ---- the bytes
 
   module _ (before later : List Entry) (e : Entry) (stands : reading_of s ≡ accepted (before ++ (e ∷ later))) (buffer : List ℕ) where
-    were : {m : ℕ} → outcome_strictly s (length buffer) ≡ Written m →
+    were : {m : ℕ} → outcome_strictly s (length buffer) ≡ Ok m →
         take (length (bytes_of (answers_strictly e))) (drop (length (bytes_of (of_records before))) (buffer_strictly s buffer)) ≡ bytes_of (answers_strictly e)
     unfolding buffer_strictly
     were {m} told =
@@ -145,7 +152,7 @@ module _ (s : List ℕ) where
         ∙ simp append_assoc)
         ∙ part_at (bytes_of (of_records before)) (bytes_of own) (bytes_of back ++ drop m buffer) refl refl
 
-  places : (buffer : List ℕ) (n : ℕ) → outcome_of s (length buffer) ≡ Written n → (before later : List Entry) (e : Entry)
+  places : (buffer : List ℕ) (n : ℕ) → outcome_of s (length buffer) ≡ Ok n → (before later : List Entry) (e : Entry)
       → reading_of s ≡ accepted (before ++ (e ∷ later)) → Places s buffer before e
   places buffer n told before later e stands =
       record {
@@ -162,8 +169,8 @@ module _ (s : List ℕ) where
   unfolding outcome_strictly outcome_of buffer_strictly buffer_after
   alike stay buffer =
       let same = by (reading_of s) stay in (
-        ap (λ (o : Outcome). cond (ltb longest (length s)) (Refused 5 0) o) same,
-        λ i. leaves (cond (ltb longest (length s)) (Refused 5 0) (same i)) (bytes_of (all_in (reading_of s) stay i)) buffer,
+        ap (λ (o : Outcome). cond (ltb longest (length s)) (refusal TooLong 0) o) same,
+        λ i. leaves (cond (ltb longest (length s)) (refusal TooLong 0) (same i)) (bytes_of (all_in (reading_of s) stay i)) buffer,
       )
     where
       by : (r : Reading) → AllStay (entries_of r) → settled r (length buffer) ≡ settled_strictly r (length buffer)

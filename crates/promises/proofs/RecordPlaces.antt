@@ -8,15 +8,15 @@ use lib.Seq.{take_at, drop_at}
 use Rattle.answers.specs.Answers.{bytes_of}
 use Rattle.answers.proofs.Bytes.{bytes_append}
 use Rattle.station_log.specs.Log.{unopened, Entry, past_all, answers_for, answers_of, answers_at_end, answers_in, answers_to, Reading, accepted, reading_of, outcome_of, leaves, buffer_after}
-use Rattle.station_log.specs.declared.Outcome.{Outcome}
-use Rattle.station_log.specs.declared.Outcome.TheVariants.{Written}
+use Rattle.std.specs.Prelude.{Ok}
+use Rattle.station_log.specs.Log.{Outcome}
 use Rattle.station_log.proofs.Walked.{answers_append, all_bytes}
 
 -- k bytes behind a list of `place` bytes
 pub part_at : (front own rest : List ℕ) {k place : ℕ} → length own ≡ k → place ≡ length front → take k (drop place (front ++ (own ++ rest))) ≡ own
 part_at front own rest {k} {place} size there = ap (take k) (drop_at front (own ++ rest) place (sym there)) ∙ take_at own rest k size
 
-module _ (s buffer : List ℕ) {n : ℕ} (written : outcome_of s (length buffer) ≡ Written n) (before later : List Entry) (e : Entry)
+module _ (s buffer : List ℕ) {n : ℕ} (written : outcome_of s (length buffer) ≡ Ok n) (before later : List Entry) (e : Entry)
     (stands : reading_of s ≡ accepted (before ++ (e ∷ later))) where
   -- all that stands behind the record's own answers
   abbrev pub rest : List ℕ

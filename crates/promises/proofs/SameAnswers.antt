@@ -18,11 +18,13 @@ use Rattle.records.specs.declared.Record.TheVariants as Record
 use Rattle.records.proofs.Bodies.{station_alike}
 use Rattle.station_log.specs.Log.{Past, unopened, block, opened, Entry, station, past_all, answers_in}
 use Rattle.station_log.specs.Log.{Reading, refused, accepted, prepend, read_from, reading_of, settled, longest, outcome_of, leaves, buffer_after}
-use Rattle.station_log.specs.declared.Outcome.TheVariants.{Refused}
+use Rattle.station_log.specs.Log.{refusal}
 use Rattle.promises.proofs.FirstStation.{opened_by, log, fields_there, first_read}
 use Rattle.promises.proofs.TwoParts.{moved, two_parts}
 use Rattle.station_log.proofs.Walked.{behind, behind_refused, behind_accepted}
 use Rattle.promises.proofs.LimitedStations.{limit_bytes, with_kind_one, with_kind_eight, StationThere, two_further, SameAnswers}
+use Rattle.station_log.specs.declared.Fault.{Fault}
+use Rattle.station_log.specs.declared.Fault.TheVariants.{StationField, TooLong}
 
 -- ---- the two records
 
@@ -96,7 +98,7 @@ module _ (front fields rest : List ℕ) (there : StationThere front fields) wher
       ∙ ap (λ (r : Reading). behind there.before (moved place r))
       (first_read 8 fields limit_bytes rest 21 (omega (arith, there.eighteen, length-append fields limit_bytes)) eight start)
 
-  refused_further : (k at further : ℕ) → cond (leb at place) at (at + 2) ≡ further
+  refused_further : (k : Fault) (at further : ℕ) → cond (leb at place) at (at + 2) ≡ further
       → behind there.before (refused k further) ≡ two_further place (behind there.before (refused k at))
   refused_further k at further e =
       behind_refused there.before k further ∙ ap (refused k) (sym e) ∙ ap (two_further place) (sym (behind_refused there.before k at))
@@ -105,9 +107,9 @@ module _ (front fields rest : List ℕ) (there : StationThere front fields) wher
   unfolding opened_by
   same_reading = read_eight ∙ by (bad_station x) (read_from (length rest + 1) rest 0 (block (opened x))) ∙ ap (two_further place) (sym read_one)
     where
-      by : (b : Bool) (r : Reading) → behind there.before (moved place (cond b (refused 3 0) (prepend (station start x) (moved 21 r))))
-          ≡ two_further place (behind there.before (moved place (cond b (refused 3 0) (prepend (station start x) (moved 19 r)))))
-      by true r = refused_further 3 (place + 0) (place + 0) (ap (λ (b : Bool). cond b (place + 0) (place + 0 + 2)) (le-leb (place + 0) place (omega arith)))
+      by : (b : Bool) (r : Reading) → behind there.before (moved place (cond b (refused StationField 0) (prepend (station start x) (moved 21 r))))
+          ≡ two_further place (behind there.before (moved place (cond b (refused StationField 0) (prepend (station start x) (moved 19 r)))))
+      by true r = refused_further StationField (place + 0) (place + 0) (ap (λ (b : Bool). cond b (place + 0) (place + 0 + 2)) (le-leb (place + 0) place (omega arith)))
       by false (refused k at) =
           refused_further k (place + (19 + at)) (place + (21 + at))
           (ap (λ (b : Bool). cond b (place + (19 + at)) (place + (19 + at) + 2)) (lt-leb (place + (19 + at)) place (omega arith)) ∙ omega arith)
@@ -118,7 +120,7 @@ module _ (front fields rest : List ℕ) (there : StationThere front fields) wher
 
   outcome_of_lem : (l : List ℕ) → length l ≤ longest → (size : ℕ) → outcome_of l size ≡ settled (reading_of l) size
   unfolding outcome_of
-  outcome_of_lem l short size = ap (λ (b : Bool). cond b (Refused 5 0) (settled (reading_of l) size)) (le-ltb longest (length l) short)
+  outcome_of_lem l short size = ap (λ (b : Bool). cond b (refusal TooLong 0) (settled (reading_of l) size)) (le-ltb longest (length l) short)
 
   same_outcome : length t ≤ longest → (size : ℕ) → outcome_of t size ≡ settled (two_further place (reading_of s)) size
   same_outcome short size = outcome_of_lem t short size ∙ ap (λ (r : Reading). settled r size) same_reading

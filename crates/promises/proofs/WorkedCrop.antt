@@ -28,10 +28,12 @@ use Rattle.promises.proofs.CropFigures.{EveryCropFigure, crop_figures_met}
 use Rattle.promises.specs.Demand.{AnsweredLog, AnsweredDay}
 use Rattle.station_log.specs.History.{days_before, good_date, counted, earlier_means, verdict_of}
 use Rattle.station_log.specs.Log.{bare, planted, crop_answers, answers_to, read_from, reading_of, outcome_of, leaves, buffer_after}
-use Rattle.station_log.specs.declared.Outcome.TheVariants as outcome
+use Rattle.std.specs.Prelude.{Ok}
+use Rattle.station_log.specs.Log.{refusal}
 use Rattle.promises.proofs.WithoutKind.{found_without, read_without, reading_without, Without}
 use Rattle.station_log.proofs.Sample.{sample, station, windless, beans, lidw, missing, no_mean, one_mean, two_means}
 use Rattle.promises.proofs.DayThere.{day_there}
+use Rattle.station_log.specs.declared.Fault.TheVariants.{ShortBuffer}
 
 -- day 180 of 2008: 90, 55, 72 and 50 °F, 700 cal/cm²/d, 100 miles
 abbrev summer : List ℕ
@@ -128,9 +130,9 @@ abbrev lent : List ℕ
 lent = replicate 84 9
 
 -- 82 are needed
-pub outcome_is : outcome_of crop_log 84 ≡ outcome.Written 82
+pub outcome_is : outcome_of crop_log 84 ≡ Ok 82
 unfolding outcome_of reading_of read_from record_at station_at day_at crop_at word_at signed_of signed_at bad_crop
-outcome_is = λ i. let n = length (bytes_of (worked i)) in cond (ltb 84 n) (outcome.Refused 12 n) (outcome.Written n)
+outcome_is = λ i. let n = length (bytes_of (worked i)) in cond (ltb 84 n) (refusal ShortBuffer n) (Ok n)
 
 -- so every hypothesis is met, and what is promised holds of this day
 pub kept : CropFigureAt (station_at crop_log 1) (day_at crop_log 76) two_means 23 (crop_at crop_log 20) (buffer_after crop_log lent)

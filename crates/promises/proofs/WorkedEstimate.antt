@@ -34,11 +34,13 @@ use Rattle.promises.specs.Demand.{AnsweredLog, FigureAt, FiguresOwed}
 use Rattle.station_log.specs.History.{days_before, good_date, counted, earlier_means, verdict_of}
 use Rattle.station_log.specs.Log.{planted, crop_answers, answers_to, read_from, reading_of, outcome_of, leaves, buffer_after}
 use Rattle.station_log.specs.Parts.{entries_of}
-use Rattle.station_log.specs.declared.Outcome.TheVariants as outcome
+use Rattle.std.specs.Prelude.{Ok}
+use Rattle.station_log.specs.Log.{refusal}
 use Rattle.promises.proofs.Demand.{log_within_bound}
 use Rattle.promises.proofs.WithoutSubstitute.{verdict_strictly, all_strictly, outcome_strictly, buffer_strictly}
 use Rattle.station_log.proofs.Sample.{sample, station, windless, beans, lidw, missing, no_mean, one_mean, two_means}
 use Rattle.promises.proofs.DayThere.{day_there}
+use Rattle.station_log.specs.declared.Fault.TheVariants.{ShortBuffer}
 
 -- day 179 of 2008, 71 °F, neither a dew point nor the wind; day 180: 90, 55 and 72 °F, no dew point, 700 cal/cm²/d, 100 miles
 abbrev two_missing : List ℕ
@@ -137,9 +139,9 @@ abbrev lent : List ℕ
 lent = replicate 84 8
 
 -- 82 are needed
-outcome_is : (size : ℕ) → outcome_of estimate_log size ≡ cond (ltb size 82) (outcome.Refused 12 82) (outcome.Written 82)
+outcome_is : (size : ℕ) → outcome_of estimate_log size ≡ cond (ltb size 82) (refusal ShortBuffer 82) (Ok 82)
 unfolding outcome_of reading_of read_from record_at station_at day_at crop_at word_at signed_of signed_at bad_crop
-outcome_is size = λ i. let n = length (bytes_of (worked i)) in cond (ltb size n) (outcome.Refused 12 n) (outcome.Written n)
+outcome_is size = λ i. let n = length (bytes_of (worked i)) in cond (ltb size n) (refusal ShortBuffer n) (Ok n)
 
 -- so every hypothesis is met, and what is owed holds of this day
 pub owed : FigureAt (station_at estimate_log 1) (day_at estimate_log 76) two_means 23 (buffer_after estimate_log lent)
@@ -172,9 +174,9 @@ then_worked =
     λ i.
     all (lacking_then.0 i) (lacking_then.1 i) (lacking_then.2 i) (lacking_then.3 i) (lacking_then.4 i) (lacking_then.5 i) (answered_then i) ++ []
 
-outcome_was : (size : ℕ) → outcome_strictly estimate_log size ≡ cond (ltb size 73) (outcome.Refused 12 73) (outcome.Written 73)
+outcome_was : (size : ℕ) → outcome_strictly estimate_log size ≡ cond (ltb size 73) (refusal ShortBuffer 73) (Ok 73)
 unfolding outcome_strictly reading_of read_from record_at station_at day_at crop_at word_at signed_of signed_at bad_crop
-outcome_was size = λ i. let n = length (bytes_of (then_worked i)) in cond (ltb size n) (outcome.Refused 12 n) (outcome.Written n)
+outcome_was size = λ i. let n = length (bytes_of (then_worked i)) in cond (ltb size n) (refusal ShortBuffer n) (Ok n)
 
 -- day 180 was refused with 7, and what stands behind it was nine bytes nearer
 pub then_bytes : buffer_strictly estimate_log lent ≡ lidw ++ missing 178 ++ missing 179 ++ missing 180 ++ later ++ replicate 11 8
@@ -182,8 +184,8 @@ unfolding buffer_strictly station_at day_at word_at
 then_bytes = λ i. leaves (outcome_was 84 i) (bytes_of (then_worked i)) lent
 
 -- a buffer of 73 bytes was enough
-pub was : outcome_strictly estimate_log 73 ≡ outcome.Written 73
+pub was : outcome_strictly estimate_log 73 ≡ Ok 73
 was = outcome_was 73
 
-pub is : outcome_of estimate_log 73 ≡ outcome.Refused 12 82
+pub is : outcome_of estimate_log 73 ≡ refusal ShortBuffer 82
 is = outcome_is 73

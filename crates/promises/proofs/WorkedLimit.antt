@@ -26,10 +26,12 @@ use Rattle.promises.proofs.LimitedStations.{StationThere}
 use Rattle.station_log.specs.Log.{bare, answers_to, read_from, reading_of, outcome_of, leaves, buffer_after}
 use Rattle.station_log.specs.Parts.{entries_of}
 use Rattle.promises.proofs.WithoutKind.{found_without, read_without, reading_without, Without}
-use Rattle.station_log.specs.declared.Outcome.TheVariants as outcome
+use Rattle.std.specs.Prelude.{Ok}
+use Rattle.station_log.specs.Log.{refusal}
 use Rattle.promises.proofs.Demand.{log_within_bound}
 use Rattle.station_log.proofs.Sample.{sample, fields, station, windless, lidw, missing, no_mean, one_mean, two_means}
 use Rattle.promises.proofs.DayThere.{day_there}
+use Rattle.station_log.specs.declared.Fault.TheVariants.{ShortBuffer}
 
 -- LIDW as kind 8 with the limit 1,000
 abbrev limited_station : List ℕ
@@ -92,9 +94,9 @@ abbrev lent : List ℕ
 lent = replicate 66 9
 
 -- 64 are needed
-outcome_is : outcome_of limit_log 66 ≡ outcome.Written 64
+outcome_is : outcome_of limit_log 66 ≡ Ok 64
 unfolding outcome_of reading_of read_from record_at station_at limited_station_at day_at word_at signed_of signed_at
-outcome_is = λ i. let n = length (bytes_of (worked i)) in cond (ltb 66 n) (outcome.Refused 12 n) (outcome.Written n)
+outcome_is = λ i. let n = length (bytes_of (worked i)) in cond (ltb 66 n) (refusal ShortBuffer n) (Ok n)
 
 -- so every hypothesis is met, and demand 3 holds of this day
 pub kept : FigureAt first (day_at limit_log 56) two_means 23 (buffer_after limit_log lent)

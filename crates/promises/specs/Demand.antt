@@ -12,13 +12,13 @@ use Rattle.day.specs.declared.Verdict.{Verdict}
 use Rattle.answers.specs.Answers.{kind_of, dated}
 use Rattle.promises.specs.Days.{DayAt}
 use Rattle.station_log.specs.Log.{outcome_of}
-use Rattle.station_log.specs.declared.Outcome.{Outcome}
-use Rattle.station_log.specs.declared.Outcome.TheVariants.{Written}
+use Rattle.std.specs.Prelude.{Ok}
+use Rattle.station_log.specs.Log.{Outcome}
 
 -- "none of 1 to 5 and 12 and no log refusal that a request adds holds of the log and its answer buffer", by the rules and not by what a reader
 -- returns
 unfoldable pub AnsweredLog : List ℕ → List ℕ → Type 0
-AnsweredLog s buffer = (n : ℕ) × (outcome_of s (length buffer) ≡ Written n)
+AnsweredLog s buffer = (n : ℕ) × (outcome_of s (length buffer) ≡ Ok n)
 
 -- "none of 6 to 11 holds of the day", without 11 (02, W6): record i of the log is the day x of a block of `st`, its date is good, its earlier means
 -- are those that the block's records give, and none of 7 to 10 holds of it as it is judged. Its answer is due at `place`.
@@ -35,7 +35,7 @@ FigureAt st x earlier place after =
 -- "An answered day gets a figure and no refusal": no log that the rules answer is refused, with an answered day or without. Which length is returned
 -- `Read` says, and not the demand.
 unfoldable pub NotRefused : List ℕ → List ℕ → Outcome → Type 0
-NotRefused s buffer returned = AnsweredLog s buffer → (n : ℕ) × (returned ≡ Written n)
+NotRefused s buffer returned = AnsweredLog s buffer → (n : ℕ) × (returned ≡ Ok n)
 
 -- what is owed for a log: `buffer` is the answer buffer as it was lent, `after` as it is left
 unfoldable pub FiguresOwed : List ℕ → List ℕ → List ℕ → Type 0
