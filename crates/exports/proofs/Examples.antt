@@ -7,7 +7,9 @@ use Rattle.day.specs.declared.Verdict.TheVariants.{Figure}
 use Rattle.day.proofs.Examples.{days}
 use Rattle.exports.specs.HandedIn.{station_of, day_of, mean_of, three_before}
 use Rattle.exports.specs.Told.{accepted, refused, estimated, said_by, outcome_said, printed_said}
-use Rattle.station_log.specs.declared.Outcome.TheVariants as outcome
+use Rattle.std.specs.Prelude.{Ok}
+use Rattle.station_log.specs.Log.{refusal}
+use Rattle.station_log.specs.declared.Fault.TheVariants.{CutShort, ShortBuffer}
 use Rattle.text.specs.declared.Printed.TheVariants as printed
 
 -- the summer day at LIDW after means of 71 and 70 °F, by its 26 numbers
@@ -25,5 +27,5 @@ unfolding said_by
 told = (refl, refl, refl, refl)
 
 -- of 01's worked log: the length of its answers; the offset where it is cut off; and for a buffer that is one byte too short the length needed
-pub outcomes : (outcome_said (outcome.Written 32) ≡ accepted 32) × (outcome_said (outcome.Refused 2 53) ≡ refused 2 53) × (outcome_said (outcome.Refused 12 32) ≡ refused 12 32)
+pub outcomes : (outcome_said (Ok 32) ≡ accepted 32) × (outcome_said (refusal CutShort 53) ≡ refused 2 53) × (outcome_said (refusal ShortBuffer 32) ≡ refused 12 32)
 outcomes = (refl, refl, refl)

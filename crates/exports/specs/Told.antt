@@ -1,6 +1,6 @@
 -- What a number that an exported function returns says of a day, of a log or of a report. Every number of 64 bits says one thing, and no two say the same (proofs/Told.antt, `told_apart`).
 -- Assumes nothing.
-use Rattle.std.specs.Prelude.{cond, List, ◌≡◌, ℕ, ◌/◌, ◌%◌, eqb}
+use Rattle.std.specs.Prelude.{cond, List, ◌≡◌, ℕ, ◌/◌, ◌%◌, eqb, Ok, Err}
 use Rattle.day.specs.Bound.{WithinBound}
 use Rattle.day.specs.Judgement.{Answered, as_judged, with_mark}
 use Rattle.day.specs.Rules.{number_of}
@@ -9,8 +9,7 @@ use Rattle.day.specs.declared.Earlier.{Earlier}
 use Rattle.day.specs.declared.Station.{Station}
 use Rattle.day.specs.declared.Verdict.{Verdict}
 use Rattle.day.specs.declared.Verdict.TheVariants.{Figure, Refused, Estimated}
-use Rattle.station_log.specs.declared.Outcome.{Outcome}
-use Rattle.station_log.specs.declared.Outcome.TheVariants as outcome
+use Rattle.station_log.specs.Log.{number_of_fault, Outcome}
 use Rattle.promises.specs.Demand.{AnsweredLog}
 use Rattle.text.specs.Report.{ReportOwed}
 use Rattle.text.specs.declared.Printed.{Printed}
@@ -40,8 +39,8 @@ verdict_said (Refused why) = refused (number_of why) 0
 verdict_said (Estimated n) = estimated n
 
 abbrev pub outcome_said : Outcome → Said
-outcome_said (outcome.Written n) = accepted n
-outcome_said (outcome.Refused k place) = refused k place
+outcome_said (Ok n) = accepted n
+outcome_said (Err r) = refused (number_of_fault r.why) r.place
 
 -- a text buffer that is too short is refused with 12, as an answer buffer is
 abbrev pub printed_said : Printed → Said

@@ -14,7 +14,6 @@ ghost use Rattle.exports.specs.Version.{version};
 
 use day::judge::judge;
 use day::{Code, Day, Earlier, Station, Verdict};
-use station_log::Outcome;
 use text::Printed;
 
 // The number of the mark in the high half: a refusal's has one byte.
@@ -128,8 +127,8 @@ pub extern "C" fn fuortwem_read_log(log: &[u8], answers: &mut [u8]) -> u64
     ensures crop_figures_owed { CropFiguresOwed log.now answers.old answers.new }
 {
     match promises::read_log(log, answers) {
-        Outcome::Written(n) => packed(0, n as u32),
-        Outcome::Refused(k, place) => packed(k as u32, place as u32),
+        Ok(n) => packed(0, n as u32),
+        Err(refused) => packed(u8::from(refused.why) as u32, refused.place as u32),
     }
 }
 

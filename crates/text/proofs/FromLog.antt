@@ -9,10 +9,9 @@ use lib.ListN.{length, drop}
 use borrow.Author.Tests.{ltb-false}
 use Rattle.answers.specs.Answers.{bytes_of}
 use Rattle.lines.specs.Text.{header}
-use Rattle.station_log.specs.Log.{longest, answers_to, reading_of, settled, outcome_of, leaves, buffer_after, Read}
+use Rattle.station_log.specs.Log.{Outcome, longest, answers_to, reading_of, settled, outcome_of, leaves, buffer_after, Read}
 use Rattle.station_log.specs.Parts.{longest_answers}
-use Rattle.station_log.specs.declared.Outcome.{Outcome}
-use Rattle.station_log.specs.declared.Outcome.TheVariants.{Written, Refused}
+use Rattle.std.specs.Prelude.{Ok, Err}
 use Rattle.station_log.proofs.OutcomeSize.{Small, outcome_small, written_size}
 use Rattle.records.proofs.Choice.{by_cond}
 use Rattle.promises.specs.Demand.{AnsweredLog}
@@ -24,26 +23,26 @@ use Rattle.text.proofs.LongEnough.{text_most}
 
 -- a log that is read to its end is no longer than a log may be
 ShortLog : List ℕ → Outcome → Type 0
-ShortLog s (Written n) = length s ≤ longest
-ShortLog s (Refused number value) = Unit {0}
+ShortLog s (Ok n) = length s ≤ longest
+ShortLog s (Err r) = Unit {0}
 
 short_log : (s : List ℕ) (o : Outcome) → length s ≤ longest → ShortLog s o
 unfolding ShortLog
-short_log s (Written n) short = short
-short_log s (Refused number value) short = tt
+short_log s (Ok n) short = short
+short_log s (Err r) short = tt
 
 module _ {s buffer after : List ℕ} where
-  pub lines_short : {n : ℕ} → AreBytes s → Read s buffer (Written n) after → length (header ++ lines_of (answers_to s)) ≤ longest_report
+  pub lines_short : {n : ℕ} → AreBytes s → Read s buffer (Ok n) after → length (header ++ lines_of (answers_to s)) ≤ longest_report
   unfolding outcome_of ShortLog
   lines_short bytes h =
       text_most s bytes
       (subst (ShortLog s) (sym h.outcome)
       (by_cond (ShortLog s) (ltb longest (length s)) (λ e. tt) (λ e. short_log s (settled (reading_of s) (length buffer)) (ltb-false longest (length s) e))))
 
-  pub answers_few : {n : ℕ} → Read s buffer (Written n) after → n ≤ longest_answers
+  pub answers_few : {n : ℕ} → Read s buffer (Ok n) after → n ≤ longest_answers
   answers_few h = subst Small (sym h.outcome) (outcome_small s (length buffer))
 
-  pub answers_held : {n : ℕ} → Read s buffer (Written n) after → Holds after 0 n (answers_to s)
+  pub answers_held : {n : ℕ} → Read s buffer (Ok n) after → Holds after 0 n (answers_to s)
   unfolding buffer_after
   answers_held {n} h =
       record {

@@ -14,10 +14,11 @@ use Rattle.day.specs.declared.Code.{Code}
 use Rattle.records.proofs.Choice.{by_cond}
 use Rattle.answers.specs.Answers.{bytes_of}
 use Rattle.answers.proofs.Roles.{count}
-use Rattle.station_log.specs.Log.{longest, answers_to, reading_of, outcome_of, settled}
+use Rattle.station_log.specs.Log.{number_of_fault, Outcome, longest, answers_to, reading_of, outcome_of, settled}
 use Rattle.station_log.specs.Parts.{longest_answers}
-use Rattle.station_log.specs.declared.Outcome.{Outcome}
-use Rattle.station_log.specs.declared.Outcome.TheVariants as outcome
+use Rattle.std.specs.Prelude.{Ok, Err}
+use Rattle.station_log.specs.declared.Refused.{Refused}
+use Rattle.station_log.specs.declared.Fault.TheVariants.{TooLong}
 use Rattle.station_log.proofs.Longest.{answers_most, lines_room}
 use Rattle.station_log.proofs.OutcomeSize.{Small, outcome_small, outcome_alike}
 use Rattle.totals.specs.Totals.{total_of}
@@ -60,18 +61,17 @@ module _ (s : List ℕ) (bytes : AreBytes s) where
       let few : (count (own b.rest)).days ≤ 3_853 = omega (arith, own_fewer b.rest, rest_fewer b.before behind, days, (lines_room s short).1) in
       rw b.its (omega (arith, t.0, few), omega (arith, t.0, t.1, few))
 
-  refused_short : (number value : ℕ) → Small (outcome.Refused number value) → Short (outcome.Refused number value)
-  refused_short number value small =
-      omega (arith, refused_line_most number value (omega (arith, small.0.1)) (omega (arith, small.1)))
+  refused_short : (r : Refused) → Small (Err r) → Short (Err r)
+  refused_short r small = omega (arith, refused_line_most (number_of_fault r.why) r.place (omega (arith, small.0.1)) (omega (arith, small.1)))
 
   any_short : length s ≤ longest → (o : Outcome) → Small o → Short o
-  any_short short (outcome.Written n) small = text_most short
-  any_short short (outcome.Refused number value) small = refused_short number value small
+  any_short short (Ok n) small = text_most short
+  any_short short (Err r) small = refused_short r small
 
   pub report_most : (size : ℕ) → length (report_of s size) ≤ longest_report
   unfolding report_of outcome_of
   report_most size =
-      by_cond (λ o. Small o → Short o) (ltb longest (length s)) (λ e. refused_short 5 0)
+      by_cond (λ o. Small o → Short o) (ltb longest (length s)) (λ e. refused_short (record { why = TooLong; place = 0 }))
       (λ e. any_short (ltb-false longest (length s) e) (settled (reading_of s) size)) (outcome_small s size)
 
 pub long_enough : LongEnough longest_answers longest_report

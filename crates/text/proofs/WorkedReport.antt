@@ -22,7 +22,9 @@ use Rattle.tables.specs.Values.{first}
 use Rattle.totals.specs.Months.{days_by, month_of}
 use Rattle.station_log.specs.Log.{answers_to, read_from, reading_of, outcome_of}
 use Rattle.station_log.proofs.Sample.{sample, fields, station, windless}
-use Rattle.station_log.specs.declared.Outcome.TheVariants as outcome
+use Rattle.std.specs.Prelude.{Ok}
+use Rattle.station_log.specs.Log.{refusal}
+use Rattle.station_log.specs.declared.Fault.TheVariants.{ShortBuffer}
 use Rattle.promises.proofs.WorkedLog.{worked}
 use Rattle.promises.proofs.WorkedCrop.{crop_log, worked as crop-worked}
 use Rattle.promises.proofs.WorkedEstimate.{estimate_log, worked as estimate-worked}
@@ -82,7 +84,7 @@ lidw_season days sum = 76 ∷ 73 ∷ 68 ∷ 87 ∷ 32 ∷ 65 ∷ 76 ∷ 76 ∷ 3
 
 -- the report of some answers, in a buffer of the length that they need
 abbrev pub told : List Answer → List ℕ
-told answers = let n = length (bytes_of answers) in text_of (cond (ltb n n) (outcome.Refused 12 n) (outcome.Written n)) answers
+told answers = let n = length (bytes_of answers) in text_of (cond (ltb n n) (refusal ShortBuffer n) (Ok n)) answers
 
 -- `LIDW 2008 178 R7`, `LIDW 2008 179 R7`, `LIDW 2008 180 0.3518`, `BEAN 0.1319`; and the second block without a crop, its last day `0.3356`
 pub with_crop : whole_report crop_log ≡

@@ -1,13 +1,11 @@
 -- The report of a log, from the log's bytes to the last newline, by document 01, "Proved days and edges"; and what is left of a buffer that it is
 -- written to. Assumes nothing.
-use Rattle.std.specs.Prelude.{cond, List, [], ◌∷◌, ◌++◌, ◌≡◌, ℕ, ltb, eqb, length, drop}
+use Rattle.std.specs.Prelude.{cond, List, [], ◌∷◌, ◌++◌, ◌≡◌, ℕ, ltb, eqb, length, drop, Ok, Err}
 use Rattle.answers.specs.Answers.{Role, opens, of_day, beside, role_of, bytes_of}
 use Rattle.day.specs.declared.Code.{Code}
-use Rattle.station_log.specs.Log.{outcome_of, answers_to}
+use Rattle.station_log.specs.Log.{number_of_fault, Outcome, outcome_of, answers_to}
 use Rattle.answers.specs.declared.Answer.{Answer}
 use Rattle.answers.specs.declared.Answer.TheVariants as answer
-use Rattle.station_log.specs.declared.Outcome.{Outcome}
-use Rattle.station_log.specs.declared.Outcome.TheVariants as outcome
 use Rattle.lines.specs.Text.{header, day_line, crop_line, month_line, season_line, refused_line}
 use Rattle.promises.specs.Demand.{AnsweredLog}
 use Rattle.totals.specs.Months.{months}
@@ -63,8 +61,8 @@ lines_of (a ∷ rest) = block_lines (role_of a) rest ++ lines_of rest
 
 -- "a log of 0 bytes prints the header alone"; a refused log prints its line and nothing else
 abbrev pub text_of : Outcome → List Answer → List ℕ
-text_of (outcome.Written n) answers = header ++ lines_of answers
-text_of (outcome.Refused number value) answers = refused_line number value
+text_of (Ok n) answers = header ++ lines_of answers
+text_of (Err r) answers = refused_line (number_of_fault r.why) r.place
 
 -- the report of a log that is read with an answer buffer of `size` bytes
 unfoldable pub report_of : List ℕ → ℕ → List ℕ

@@ -14,7 +14,6 @@ ghost use Rattle.text.specs.Walk.{longest_report, Holds, Ordered};
 ghost use Rattle.lines.specs.Written.{AtFront};
 
 use promises::read_log;
-use station_log::Outcome;
 
 mod answer_walk;
 mod season;
@@ -69,8 +68,8 @@ pub fn write_report(log: &[u8], answers: &mut [u8], text: &mut [u8]) -> Printed
     ensures crop_figures_owed { CropFiguresOwed log.now answers.old answers.new }
 {
     match read_log(log, answers) {
-        Outcome::Refused(number, value) => print_refused(number, value, text),
-        Outcome::Written(n) => print_answers(answers, n, text),
+        Err(refused) => print_refused(u8::from(refused.why), refused.place, text),
+        Ok(n) => print_answers(answers, n, text),
     }
 }
 

@@ -5,14 +5,14 @@ use Rattle.exports.proofs.Returned.{written_small, refused_small, refused_said, 
 use Rattle.exports.proofs.fuortwem_read_log.Goals as goal
 
 pub overflow_cast-n : goal.overflow_cast-n
-overflow_cast-n c = record { fits = written_small _ _ c.in-Written.ensures.read.outcome }
+overflow_cast-n c = record { fits = written_small _ _ c.in-Ok.ensures.read.outcome }
 
-pub overflow_cast-place : goal.overflow_cast-place
-overflow_cast-place c = record { fits = refused_small _ _ c.in-Refused.ensures.read.outcome }
+pub overflow_cast-refused : goal.overflow_cast-refused
+overflow_cast-refused c = record { fits = refused_small _ _ c.in-Err.ensures.read.outcome }
 
-pub returns-in-Written : goal.returns-in-Written
-returns-in-Written c =
-    let read = c.in-Written.ensures in
+pub returns-in-Ok : goal.returns-in-Ok
+returns-in-Ok c =
+    let read = c.in-Ok.ensures in
     let said = c.packed.ensures ∙ ap outcome_said read.read.outcome in
     record {
       result_value = said;
@@ -22,11 +22,11 @@ returns-in-Written c =
       crop_figures_owed = read.crop_figures_owed;
     }
 
-pub returns-in-Refused : goal.returns-in-Refused
-returns-in-Refused c =
-    let read = c.in-Refused.ensures in
+pub returns-in-Err : goal.returns-in-Err
+returns-in-Err c =
+    let read = c.in-Err.ensures in
     let outcome = read.read.outcome in
-    let said = c.packed-in-Refused.ensures ∙ refused_said _ _ outcome ∙ ap outcome_said outcome in
+    let said = c.packed-in-Err.ensures ∙ refused_said _ _ c.from.ensures outcome ∙ ap outcome_said outcome in
     record {
       result_value = said;
       length_said = length_said _ _ _ said;
