@@ -8,7 +8,7 @@ use native.Mathlib.Omega.{arith}
 use lib.ListN.{length, length-append, get_or-append}
 use Rattle.day.specs.Rules.{bad_station}
 use Rattle.day.specs.declared.Station.{Station}
-use Rattle.records.specs.Record.{record_at, found_in}
+use Rattle.records.specs.Record.{Found, whole, found_at}
 use Rattle.records.specs.declared.Record.{Record}
 use Rattle.records.proofs.Alike.{Alike}
 use Rattle.records.proofs.Part.{Part, rest_part}
@@ -54,12 +54,12 @@ module _ (kind : ℕ) (fields more rest : List ℕ) where
         ∙ read_last rest_there whole_length (length log) 0 p
         ∙ (λ i. moved (sized i) (steps_enough rest (length log) (length rest + 1) 0 p (omega arith) (omega (arith, whole_length)) (omega arith) i))
 
-    pub first_read : {x : Station} → record_at log 0 ≡ Record.Station n x → (q : Past) → read_from (length log + 1) log 0 q ≡ opened_by n q x rest
+    pub first_read : {x : Station} → found_at log 0 ≡ whole n (Record.Station x) → (q : Past) → read_from (length log + 1) log 0 q ≡ opened_by n q x rest
     unfolding read_from opened_by
     first_read {x} is q =
         let steps : length log + 1 ≡ suc (length log) = omega arith in
         ap (λ (m : ℕ). read_from m log 0 q) steps
-        ∙ ap (λ (r : Record). onward (step_of (found_in log r) q) 0 (read_from (length log) log)) is
+        ∙ ap (λ (f : Found). onward (step_of f q) 0 (read_from (length log) log)) is
         ∙ by (bad_station x)
       where
         by : (b : Bool) → onward (goes_to n (cond b (fault StationField) (enters (station q x)))) 0 (read_from (length log) log)

@@ -19,7 +19,7 @@ use Rattle.day.proofs.Idle.{inches, two_figures, apart}
 use Rattle.day.proofs.Marks.{either_way}
 use Rattle.answers.specs.Answers.{kind_of, dated}
 use Rattle.records.specs.Bytes.{word_at, signed_of, signed_at}
-use Rattle.records.specs.Record.{station_at, day_at, record_at}
+use Rattle.records.specs.Record.{station_at, day_at, found_at}
 use Rattle.promises.specs.Demand.{AnsweredLog, FigureAt, NotRefused, FiguresOwed, EveryFigureWithinBound}
 use Rattle.station_log.specs.Log.{read_from, reading_of, outcome_of}
 use Rattle.std.specs.Prelude.{Ok, Err}
@@ -34,7 +34,7 @@ abbrev blank : List ℕ
 blank = replicate 34 0
 
 accepted_there : AnsweredLog sample blank
-unfolding AnsweredLog outcome_of reading_of read_from record_at station_at day_at word_at signed_of signed_at
+unfolding AnsweredLog outcome_of reading_of read_from found_at station_at day_at word_at signed_of signed_at
 accepted_there = (32, refl)
 
 -- an answered day's answer is of kind 3 or 9

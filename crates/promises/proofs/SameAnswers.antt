@@ -13,7 +13,7 @@ use Rattle.answers.specs.Answers.{bytes_of}
 use Rattle.day.specs.Rules.{routine_limit, bad_station}
 use Rattle.day.specs.declared.Station.{Station}
 use Rattle.records.specs.Bytes.{word_at}
-use Rattle.records.specs.Record.{station_with, station_at, limited_station_at, record_at}
+use Rattle.records.specs.Record.{station_with, station_at, limited_station_at, whole, found_at}
 use Rattle.records.specs.declared.Record.TheVariants as Record
 use Rattle.records.proofs.Bodies.{station_alike}
 use Rattle.station_log.specs.Log.{Past, unopened, block, opened, Entry, station, past_all, answers_in}
@@ -52,8 +52,8 @@ module _ (front fields rest : List ℕ) (there : StationThere front fields) wher
   unfolding station_at
   one_says = station_alike (fields_there 1 fields [] rest) {l = routine_limit} refl (omega (arith, there.eighteen))
 
-  one : record_at log_one 0 ≡ Record.Station 19 x
-  unfolding record_at
+  one : found_at log_one 0 ≡ whole 19 (Record.Station x)
+  unfolding found_at
   one =
       simp (
         lt-leb (length log_one) 0 (omega arith),
@@ -72,8 +72,8 @@ module _ (front fields rest : List ℕ) (there : StationThere front fields) wher
   unfolding limited_station_at
   eight_says = station_alike (fields_there 8 fields limit_bytes rest) limit_is (omega (arith, there.eighteen))
 
-  eight : record_at log_eight 0 ≡ Record.Station 21 x
-  unfolding record_at
+  eight : found_at log_eight 0 ≡ whole 21 (Record.Station x)
+  unfolding found_at
   eight =
       simp (
         lt-leb (length log_eight) 0 (omega arith),

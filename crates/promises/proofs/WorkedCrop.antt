@@ -22,7 +22,7 @@ use Rattle.answers.specs.Answers.{day_answer, bytes_of}
 use Rattle.answers.specs.declared.Answer.{Answer}
 use Rattle.answers.specs.declared.Answer.TheVariants as answer
 use Rattle.records.specs.Bytes.{word_at, signed_of, signed_at}
-use Rattle.records.specs.Record.{station_at, day_at, crop_at, record_at}
+use Rattle.records.specs.Record.{station_at, day_at, crop_at, found_at}
 use Rattle.promises.specs.CropFigures.{CropDay, CropFigureAt, CropFiguresOwed}
 use Rattle.promises.proofs.CropFigures.{EveryCropFigure, crop_figures_met}
 use Rattle.promises.specs.Demand.{AnsweredLog, AnsweredDay}
@@ -68,7 +68,7 @@ front v w = answer.Station (station_at crop_log 1).code ∷ (sown 42 v ++ (sown 
 
 -- record 4 is an answered day of the beans' season
 pub crop_day : CropDay crop_log 4 (station_at crop_log 1) (day_at crop_log 76) two_means 23 (crop_at crop_log 20)
-unfolding reading_of read_from record_at station_at day_at crop_at word_at signed_of signed_at is_date year_length days_before good_date counted earlier_means verdict_of Answered bad_crop in_season day_there
+unfolding reading_of read_from found_at station_at day_at crop_at word_at signed_of signed_at is_date year_length days_before good_date counted earlier_means verdict_of Answered bad_crop in_season day_there
 crop_day =
     record {
       answered = record {
@@ -90,7 +90,7 @@ pub worked : answers_to crop_log ≡
     ∷ answer.Day 2008 177 (Refused Missing) ∷ answer.Day 2008 178 (Refused Missing) ∷ answer.Day 2008 179 (Refused Missing)
     ∷ answer.Day 2008 180 (Figure 3_356)
     ∷ []
-unfolding reading_of read_from record_at station_at day_at crop_at word_at signed_of signed_at is_date year_length days_before good_date counted earlier_means verdict_of bad_crop in_season above crop_figure
+unfolding reading_of read_from found_at station_at day_at crop_at word_at signed_of signed_at is_date year_length days_before good_date counted earlier_means verdict_of bad_crop in_season above crop_figure
 worked =
     λ i.
     (answer.Station (station_at crop_log 1).code
@@ -114,7 +114,7 @@ abbrev pub other_means : Earlier
 other_means = record { one = Some (pos 850); two = Some (pos 610); three = Some (pos 455) }
 
 pub second_day : AnsweredDay crop_log 9 (station_at crop_log 93) (day_at crop_log 163) other_means 73
-unfolding reading_of read_from record_at station_at day_at crop_at word_at signed_of signed_at is_date year_length days_before good_date counted earlier_means verdict_of Answered bad_crop in_season above crop_figure day_there
+unfolding reading_of read_from found_at station_at day_at crop_at word_at signed_of signed_at is_date year_length days_before good_date counted earlier_means verdict_of Answered bad_crop in_season above crop_figure day_there
 second_day =
     record {
       at = day_there crop_log 9
@@ -131,7 +131,7 @@ lent = replicate 84 9
 
 -- 82 are needed
 pub outcome_is : outcome_of crop_log 84 ≡ Ok 82
-unfolding outcome_of reading_of read_from record_at station_at day_at crop_at word_at signed_of signed_at bad_crop
+unfolding outcome_of reading_of read_from found_at station_at day_at crop_at word_at signed_of signed_at bad_crop
 outcome_is = λ i. let n = length (bytes_of (worked i)) in cond (ltb 84 n) (refusal ShortBuffer n) (Ok n)
 
 -- so every hypothesis is met, and what is promised holds of this day
@@ -153,5 +153,5 @@ bytes = λ i. leaves (outcome_is i) (bytes_of (worked i)) lent
 -- ---- a log without a crop
 
 pub without : Without 6 sample
-unfolding reading_without read_without found_without record_at station_at day_at word_at signed_of signed_at
+unfolding reading_without read_without found_without found_at station_at day_at word_at signed_of signed_at
 without at e = let z : ◌≡◌ {A = ℕ} 0 1 = cc in absurd (omega arith)

@@ -26,7 +26,7 @@ use Rattle.answers.specs.Answers.{day_answer, bytes_of}
 use Rattle.answers.specs.declared.Answer.{Answer}
 use Rattle.answers.specs.declared.Answer.TheVariants as answer
 use Rattle.records.specs.Bytes.{word_at, signed_of, signed_at}
-use Rattle.records.specs.Record.{station_at, day_at, crop_at, record_at}
+use Rattle.records.specs.Record.{station_at, day_at, crop_at, found_at}
 use Rattle.promises.specs.CropFigures.{CropDay, CropFigureAt, CropFiguresOwed}
 use Rattle.promises.proofs.CropFigures.{EveryCropFigure, crop_figures_met}
 use Rattle.promises.specs.Days.{DayAt}
@@ -101,12 +101,12 @@ pub worked : answers_to estimate_log ≡
     ∷ answer.Station (station_at estimate_log 1).code
     ∷ answer.Day 2008 10 (Refused Missing) ∷ answer.Day 2008 11 (Refused Missing) ∷ answer.Day 2008 12 (Figure 0)
     ∷ []
-unfolding reading_of read_from record_at station_at day_at crop_at word_at signed_of signed_at is_date year_length days_before good_date counted earlier_means verdict_of bad_crop in_season above crop_figure
+unfolding reading_of read_from found_at station_at day_at crop_at word_at signed_of signed_at is_date year_length days_before good_date counted earlier_means verdict_of bad_crop in_season above crop_figure
 worked = λ i. all (lacking.0 i) (lacking.1 i) (estimates.told i) (lacking.2 i) (lacking.3 i) (lacking.4 i) (days.0.told i) ++ []
 
 -- record 4 is an answered day of the beans' season
 pub crop_day : CropDay estimate_log 4 (station_at estimate_log 1) (day_at estimate_log 76) two_means 23 (crop_at estimate_log 20)
-unfolding reading_of read_from record_at station_at day_at crop_at word_at signed_of signed_at is_date year_length days_before good_date counted earlier_means verdict_of Answered bad_crop in_season day_there
+unfolding reading_of read_from found_at station_at day_at crop_at word_at signed_of signed_at is_date year_length days_before good_date counted earlier_means verdict_of Answered bad_crop in_season day_there
 crop_day =
     record {
       answered = record {
@@ -122,7 +122,7 @@ crop_day =
 
 -- record 5 has its mean among the earlier ones
 pub next_day : DayAt estimate_log 5 (station_at estimate_log 1) (day_at estimate_log 93) three_means true 41
-unfolding reading_of read_from record_at station_at day_at crop_at word_at signed_of signed_at is_date year_length days_before good_date counted earlier_means verdict_of bad_crop in_season above crop_figure day_there
+unfolding reading_of read_from found_at station_at day_at crop_at word_at signed_of signed_at is_date year_length days_before good_date counted earlier_means verdict_of bad_crop in_season above crop_figure day_there
 next_day =
     day_there estimate_log 5
     (record {
@@ -140,7 +140,7 @@ lent = replicate 84 8
 
 -- 82 are needed
 outcome_is : (size : ℕ) → outcome_of estimate_log size ≡ cond (ltb size 82) (refusal ShortBuffer 82) (Ok 82)
-unfolding outcome_of reading_of read_from record_at station_at day_at crop_at word_at signed_of signed_at bad_crop
+unfolding outcome_of reading_of read_from found_at station_at day_at crop_at word_at signed_of signed_at bad_crop
 outcome_is size = λ i. let n = length (bytes_of (worked i)) in cond (ltb size n) (refusal ShortBuffer n) (Ok n)
 
 -- so every hypothesis is met, and what is owed holds of this day
@@ -169,13 +169,13 @@ bytes = λ i. leaves (outcome_is 84 i) (bytes_of (worked i)) lent
 
 then_worked : all_strictly (entries_of (reading_of estimate_log)) ≡
     all (Refused Missing) (Refused Missing) (Refused Missing) (Refused Missing) (Refused Missing) (Refused Missing) (Figure 0)
-unfolding reading_of read_from record_at station_at day_at crop_at word_at signed_of signed_at is_date year_length days_before good_date counted earlier_means verdict_strictly bad_crop in_season above crop_figure
+unfolding reading_of read_from found_at station_at day_at crop_at word_at signed_of signed_at is_date year_length days_before good_date counted earlier_means verdict_strictly bad_crop in_season above crop_figure
 then_worked =
     λ i.
     all (lacking_then.0 i) (lacking_then.1 i) (lacking_then.2 i) (lacking_then.3 i) (lacking_then.4 i) (lacking_then.5 i) (answered_then i) ++ []
 
 outcome_was : (size : ℕ) → outcome_strictly estimate_log size ≡ cond (ltb size 73) (refusal ShortBuffer 73) (Ok 73)
-unfolding outcome_strictly reading_of read_from record_at station_at day_at crop_at word_at signed_of signed_at bad_crop
+unfolding outcome_strictly reading_of read_from found_at station_at day_at crop_at word_at signed_of signed_at bad_crop
 outcome_was size = λ i. let n = length (bytes_of (then_worked i)) in cond (ltb size n) (refusal ShortBuffer n) (Ok n)
 
 -- day 180 was refused with 7, and what stands behind it was nine bytes nearer

@@ -19,7 +19,7 @@ use Rattle.answers.specs.Answers.{day_answer, bytes_of}
 use Rattle.answers.specs.declared.Answer.{Answer}
 use Rattle.answers.specs.declared.Answer.TheVariants as answer
 use Rattle.records.specs.Bytes.{word_at, signed_of, signed_at}
-use Rattle.records.specs.Record.{station_at, limited_station_at, day_at, record_at}
+use Rattle.records.specs.Record.{station_at, limited_station_at, day_at, found_at}
 use Rattle.promises.specs.Demand.{AnsweredLog, AnsweredDay, FigureAt, FiguresOwed}
 use Rattle.station_log.specs.History.{days_before, good_date, counted, earlier_means, verdict_of}
 use Rattle.promises.proofs.LimitedStations.{StationThere}
@@ -64,7 +64,7 @@ front v w = answer.Station first.code ∷ day_answer (day_at limit_log 22) v ∷
 
 -- record 3 is an answered day at a station of kind 8
 pub answered : AnsweredDay limit_log 3 first (day_at limit_log 56) two_means 23
-unfolding reading_of read_from record_at station_at limited_station_at day_at word_at signed_of signed_at is_date year_length days_before good_date counted earlier_means verdict_of Answered
+unfolding reading_of read_from found_at station_at limited_station_at day_at word_at signed_of signed_at is_date year_length days_before good_date counted earlier_means verdict_of Answered
 answered =
     record {
       at = day_there limit_log 3 (record { station = first; days = day_at limit_log 39 ∷ day_at limit_log 22 ∷ []; crop = bare }) (day_at limit_log 56) refl refl
@@ -79,7 +79,7 @@ pub worked : answers_to limit_log ≡
     ∷ answer.Station second.code
     ∷ answer.Day 2008 178 (Refused Missing) ∷ answer.Day 2008 179 (Refused Missing) ∷ answer.Day 2008 180 (Figure 3_925)
     ∷ []
-unfolding reading_of read_from record_at station_at limited_station_at day_at word_at signed_of signed_at is_date year_length days_before good_date counted earlier_means verdict_of
+unfolding reading_of read_from found_at station_at limited_station_at day_at word_at signed_of signed_at is_date year_length days_before good_date counted earlier_means verdict_of
 worked =
     λ i.
     answer.Station first.code
@@ -95,7 +95,7 @@ lent = replicate 66 9
 
 -- 64 are needed
 outcome_is : outcome_of limit_log 66 ≡ Ok 64
-unfolding outcome_of reading_of read_from record_at station_at limited_station_at day_at word_at signed_of signed_at
+unfolding outcome_of reading_of read_from found_at station_at limited_station_at day_at word_at signed_of signed_at
 outcome_is = λ i. let n = length (bytes_of (worked i)) in cond (ltb 66 n) (refusal ShortBuffer n) (Ok n)
 
 -- so every hypothesis is met, and demand 3 holds of this day
@@ -117,9 +117,9 @@ bytes = λ i. leaves (outcome_is i) (bytes_of (worked i)) lent
 
 -- document 01's log in front of LIDW's fields
 pub there : StationThere sample fields
-unfolding reading_of read_from record_at station_at day_at word_at signed_of signed_at
+unfolding reading_of read_from found_at station_at day_at word_at signed_of signed_at
 there = record { before = entries_of (reading_of sample); whole = refl; eighteen = refl }
 
 pub without : Without 8 sample
-unfolding reading_without read_without found_without record_at station_at day_at word_at signed_of signed_at
+unfolding reading_without read_without found_without found_at station_at day_at word_at signed_of signed_at
 without at e = let z : ◌≡◌ {A = ℕ} 0 1 = cc in absurd (omega arith)

@@ -20,7 +20,7 @@ use Rattle.promises.specs.Demand.{AnsweredDay}
 use Rattle.station_log.specs.History.{days_before, good_date, counted, earlier_means, verdict_of}
 use Rattle.station_log.specs.Log.{bare, answers_to, read_from, reading_of, outcome_of, buffer_after}
 use Rattle.answers.specs.declared.Answer.TheVariants as answer
-use Rattle.records.specs.Record.{station_at, day_at, record_at}
+use Rattle.records.specs.Record.{station_at, day_at, found_at}
 use Rattle.station_log.proofs.Sample.{sample, fields, station, plain_day}
 use Rattle.promises.proofs.DayThere.{day_there}
 
@@ -29,7 +29,7 @@ abbrev pub means : Earlier
 means = record { one = Some (pos 200); two = Some (pos 200); three = None }
 
 pub third : DayAt sample 3 (station_at sample 1) (day_at sample 54) means true 23
-unfolding reading_of read_from record_at station_at day_at word_at signed_of signed_at is_date year_length days_before good_date counted earlier_means
+unfolding reading_of read_from found_at station_at day_at word_at signed_of signed_at is_date year_length days_before good_date counted earlier_means
 third =
     day_there sample 3 (record { station = station_at sample 1; days = day_at sample 37 ∷ day_at sample 20 ∷ []; crop = bare }) (day_at sample 54) refl refl refl
 
@@ -48,7 +48,7 @@ pub worked : answers_to sample ≡
     answer.Station (station_at sample 1).code
     ∷ answer.Day 2008 10 (Refused Missing) ∷ answer.Day 2008 11 (Refused Missing) ∷ answer.Day 2008 12 (Figure 0)
     ∷ []
-unfolding reading_of read_from record_at station_at day_at word_at signed_of signed_at is_date year_length days_before good_date counted earlier_means verdict_of
+unfolding reading_of read_from found_at station_at day_at word_at signed_of signed_at is_date year_length days_before good_date counted earlier_means verdict_of
 worked =
     λ i.
     answer.Station (station_at sample 1).code
@@ -67,12 +67,12 @@ pub bytes : buffer_after sample lent ≡
     ∷ 4 ∷ 7 ∷ 216 ∷ 0 ∷ 11 ∷ 0 ∷ 0 ∷ 0 ∷ 7
     ∷ 3 ∷ 7 ∷ 216 ∷ 0 ∷ 12 ∷ 0 ∷ 0 ∷ 0 ∷ 0
     ∷ 9 ∷ 9 ∷ []
-unfolding buffer_after outcome_of reading_of read_from record_at station_at day_at word_at signed_of signed_at
+unfolding buffer_after outcome_of reading_of read_from found_at station_at day_at word_at signed_of signed_at
 bytes = λ i. bytes_of (worked i) ++ (9 ∷ 9 ∷ [])
 
 -- a refused log leaves every byte: the same one cut off within its last day, and with a buffer that is one byte too short
 pub untouched : (buffer_after (take 69 sample) lent ≡ lent) × (buffer_after sample (take 31 lent) ≡ take 31 lent)
-unfolding buffer_after outcome_of reading_of read_from record_at station_at day_at word_at signed_of signed_at
+unfolding buffer_after outcome_of reading_of read_from found_at station_at day_at word_at signed_of signed_at
 untouched = (refl, refl)
 
 -- ---- two blocks
@@ -89,7 +89,7 @@ two_blocks =
 
 -- over the year's end: day 1 has the mean of day 365, whose day is refused
 pub year_end : DayAt two_blocks 2 (station_at two_blocks 1) (day_at two_blocks 37) (record { one = Some (pos 200); two = None; three = None }) true 14
-unfolding reading_of read_from record_at station_at day_at word_at signed_of signed_at is_date year_length days_before good_date counted earlier_means
+unfolding reading_of read_from found_at station_at day_at word_at signed_of signed_at is_date year_length days_before good_date counted earlier_means
 year_end =
     day_there two_blocks 2 (record { station = station_at two_blocks 1; days = day_at two_blocks 20 ∷ []; crop = bare }) (day_at two_blocks 37) refl refl refl
 
@@ -112,7 +112,7 @@ pub two_blocks_lem : buffer_after two_blocks room ≡
     ∷ 4 ∷ 7 ∷ 216 ∷ 0 ∷ 11 ∷ 0 ∷ 0 ∷ 0 ∷ 6
     ∷ 3 ∷ 7 ∷ 216 ∷ 0 ∷ 12 ∷ 0 ∷ 0 ∷ 0 ∷ 0
     ∷ drop 64 room
-unfolding buffer_after outcome_of reading_of read_from record_at station_at day_at word_at signed_of signed_at is_date year_length days_before good_date counted earlier_means verdict_of
+unfolding buffer_after outcome_of reading_of read_from found_at station_at day_at word_at signed_of signed_at is_date year_length days_before good_date counted earlier_means verdict_of
 two_blocks_lem =
     λ i.
     (5 ∷ 76 ∷ 73 ∷ 68 ∷ 88 ∷ [])

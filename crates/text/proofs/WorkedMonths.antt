@@ -21,7 +21,7 @@ use Rattle.answers.specs.Answers.{day_answer}
 use Rattle.answers.specs.declared.Answer.{Answer}
 use Rattle.answers.specs.declared.Answer.TheVariants as answer
 use Rattle.records.specs.Bytes.{word_at, signed_of, signed_at}
-use Rattle.records.specs.Record.{station_at, day_at, record_at}
+use Rattle.records.specs.Record.{station_at, day_at, found_at}
 use Rattle.station_log.specs.History.{days_before, good_date, counted, earlier_means, verdict_of}
 use Rattle.station_log.specs.Log.{answers_to, read_from, reading_of, outcome_of}
 use Rattle.station_log.proofs.Sample as sample
@@ -109,7 +109,7 @@ pub worked_months : answers_to months_log ≡
     ∷ answer.Day 2008 59 (Figure 535) ∷ answer.Day 2008 60 (Figure 523) ∷ answer.Day 2008 61 (Estimated 519)
     ∷ answer.Station (station_at months_log 1).code ∷ answer.Day 2008 92 (Refused Missing)
     ∷ []
-unfolding reading_of read_from record_at station_at day_at word_at signed_of signed_at is_date year_length days_before good_date counted earlier_means verdict_of
+unfolding reading_of read_from found_at station_at day_at word_at signed_of signed_at is_date year_length days_before good_date counted earlier_means verdict_of
 worked_months =
     λ i.
     answer.Station (station_at months_log 1).code
@@ -136,7 +136,7 @@ pub with_months : whole_report months_log ≡
     ++ lidw_season (53 ∷ []) (48 ∷ 46 ∷ 50 ∷ 48 ∷ 52 ∷ 56 ∷ [])
     ++ lidw (48 ∷ 57 ∷ 50 ∷ []) missing
     ++ lidw_season (48 ∷ []) (48 ∷ 46 ∷ 48 ∷ 48 ∷ 48 ∷ 48 ∷ [])
-unfolding whole_report report_of outcome_of reading_of read_from record_at station_at day_at word_at signed_of signed_at day_line padded verdict_text inches digits leading month_line season_line totals month_of first days_by year_length
+unfolding whole_report report_of outcome_of reading_of read_from found_at station_at day_at word_at signed_of signed_at day_line padded verdict_text inches digits leading month_line season_line totals month_of first days_by year_length
 with_months = (λ i. told (worked_months i)) ∙ in_turn months_log worked_months
 
 -- ---- what is owed of its totals

@@ -12,7 +12,7 @@ use Rattle.answers.specs.declared.Answer.{Answer}
 use Rattle.answers.specs.declared.Answer.TheVariants as answer
 use Rattle.crops.specs.Crop.{bad_crop}
 use Rattle.records.specs.Bytes.{word_at, signed_of, signed_at}
-use Rattle.records.specs.Record.{station_at, day_at, crop_at, record_at}
+use Rattle.records.specs.Record.{station_at, day_at, crop_at, found_at}
 use Rattle.day.specs.Calendar.{year_length, is_date}
 use Rattle.day.specs.Judgement.{holds, standing_of, lacks_dew_point, as_judged, judged}
 use Rattle.day.specs.declared.Refusal.TheVariants.{Missing}
@@ -47,22 +47,22 @@ pub report : whole_report sample ≡
     ∷ 76 ∷ 73 ∷ 68 ∷ 87 ∷ 32 ∷ 50 ∷ 48 ∷ 48 ∷ 56 ∷ 32 ∷ 48 ∷ 49 ∷ 32 ∷ 49 ∷ 32 ∷ 48 ∷ 46 ∷ 48 ∷ 48 ∷ 48 ∷ 48 ∷ newline
     ∷ 76 ∷ 73 ∷ 68 ∷ 87 ∷ 32 ∷ 65 ∷ 76 ∷ 76 ∷ 32 ∷ 49 ∷ 32 ∷ 48 ∷ 46 ∷ 48 ∷ 48 ∷ 48 ∷ 48 ∷ newline
     ∷ []
-unfolding whole_report report_of outcome_of reading_of read_from record_at station_at day_at word_at signed_of signed_at day_line padded verdict_text inches digits leading month_line season_line totals month_of first days_by year_length
+unfolding whole_report report_of outcome_of reading_of read_from found_at station_at day_at word_at signed_of signed_at day_line padded verdict_text inches digits leading month_line season_line totals month_of first days_by year_length
 report = (λ i. header ++ lines_of (worked i)) ∙ in_turn sample worked
 
 -- cut off within day 12, whose kind byte is at 53: `REFUSED 2 53`
 pub cut_off : whole_report (take 69 sample) ≡ 82 ∷ 69 ∷ 70 ∷ 85 ∷ 83 ∷ 69 ∷ 68 ∷ 32 ∷ 50 ∷ 32 ∷ 53 ∷ 51 ∷ newline ∷ []
-unfolding whole_report report_of outcome_of reading_of read_from record_at station_at day_at word_at signed_of signed_at refused_line digits leading
+unfolding whole_report report_of outcome_of reading_of read_from found_at station_at day_at word_at signed_of signed_at refused_line digits leading
 cut_off = refl
 
 -- 31 bytes for 32 of answers: `REFUSED 12 32`
 pub answers_short : report_of sample 31 ≡ 82 ∷ 69 ∷ 70 ∷ 85 ∷ 83 ∷ 69 ∷ 68 ∷ 32 ∷ 49 ∷ 50 ∷ 32 ∷ 51 ∷ 50 ∷ newline ∷ []
-unfolding report_of outcome_of reading_of read_from record_at station_at day_at word_at signed_of signed_at refused_line digits leading
+unfolding report_of outcome_of reading_of read_from found_at station_at day_at word_at signed_of signed_at refused_line digits leading
 answers_short = refl
 
 -- "a log of 0 bytes prints the header alone"
 pub empty : whole_report [] ≡ header
-unfolding whole_report report_of outcome_of reading_of read_from record_at
+unfolding whole_report report_of outcome_of reading_of read_from found_at
 empty = refl
 
 -- the line of a day of LIDW in a year of the last digit `y`, and in 2008: its day and what is said of it; `R7`
@@ -101,7 +101,7 @@ pub with_crop : whole_report crop_log ≡
     ++ lidw (49 ∷ 56 ∷ 48 ∷ []) (48 ∷ 46 ∷ 51 ∷ 51 ∷ 53 ∷ 54 ∷ [])
     ++ lidw_month (48 ∷ 54 ∷ []) (49 ∷ []) (48 ∷ 46 ∷ 51 ∷ 51 ∷ 53 ∷ 54 ∷ [])
     ++ lidw_season (49 ∷ []) (48 ∷ 46 ∷ 51 ∷ 51 ∷ 53 ∷ 54 ∷ [])
-unfolding whole_report report_of outcome_of reading_of read_from record_at station_at day_at crop_at word_at signed_of signed_at bad_crop day_line crop_line padded verdict_text inches digits leading month_line season_line totals month_of first days_by year_length
+unfolding whole_report report_of outcome_of reading_of read_from found_at station_at day_at crop_at word_at signed_of signed_at bad_crop day_line crop_line padded verdict_text inches digits leading month_line season_line totals month_of first days_by year_length
 with_crop = (λ i. told (crop-worked i)) ∙ in_turn crop_log crop-worked
 
 -- `LIDW 2008 178 R7`, `LIDW 2008 179 R7`, `LIDW 2008 180 0.3347 E`, `BEAN 0.1255`, `LIDW 2008 181 R7`, and document 01's
@@ -119,7 +119,7 @@ pub with_estimate : whole_report estimate_log ≡
     ++ lidw (48 ∷ 49 ∷ 50 ∷ []) (48 ∷ 46 ∷ 48 ∷ 48 ∷ 48 ∷ 48 ∷ [])
     ++ lidw_month (48 ∷ 49 ∷ []) (49 ∷ []) (48 ∷ 46 ∷ 48 ∷ 48 ∷ 48 ∷ 48 ∷ [])
     ++ lidw_season (49 ∷ []) (48 ∷ 46 ∷ 48 ∷ 48 ∷ 48 ∷ 48 ∷ [])
-unfolding whole_report report_of outcome_of reading_of read_from record_at station_at day_at crop_at word_at signed_of signed_at bad_crop day_line crop_line padded verdict_text inches digits leading month_line season_line totals month_of first days_by year_length
+unfolding whole_report report_of outcome_of reading_of read_from found_at station_at day_at crop_at word_at signed_of signed_at bad_crop day_line crop_line padded verdict_text inches digits leading month_line season_line totals month_of first days_by year_length
 with_estimate = (λ i. told (estimate-worked i)) ∙ in_turn estimate_log estimate-worked
 
 -- ---- two stations
@@ -132,7 +132,7 @@ codes_worked : answers_to two_codes ≡
     answer.Station (station_at two_codes 1).code ∷ answer.Day 2008 10 (Refused Missing)
     ∷ answer.Station (station_at two_codes 37).code ∷ answer.Day 2008 11 (Refused Missing)
     ∷ []
-unfolding reading_of read_from record_at station_at day_at word_at signed_of signed_at is_date year_length days_before good_date counted earlier_means verdict_of judged lacks_dew_point as_judged standing_of holds
+unfolding reading_of read_from found_at station_at day_at word_at signed_of signed_at is_date year_length days_before good_date counted earlier_means verdict_of judged lacks_dew_point as_judged standing_of holds
 codes_worked = refl
 
 -- each line has its own block's code: `LIDX 2008 010 R7`, `LIDX ALL 0 0.0000`, `LIDW 2008 011 R7`, `LIDW ALL 0 0.0000`
@@ -142,5 +142,5 @@ pub two_codes_lem : whole_report two_codes ≡
     ++ (76 ∷ 73 ∷ 68 ∷ 88 ∷ 32 ∷ 65 ∷ 76 ∷ 76 ∷ 32 ∷ 48 ∷ 32 ∷ 48 ∷ 46 ∷ 48 ∷ 48 ∷ 48 ∷ 48 ∷ newline ∷ [])
     ++ lidw (48 ∷ 49 ∷ 49 ∷ []) missing
     ++ lidw_season (48 ∷ []) (48 ∷ 46 ∷ 48 ∷ 48 ∷ 48 ∷ 48 ∷ [])
-unfolding whole_report report_of outcome_of reading_of read_from record_at station_at day_at word_at signed_of signed_at day_line padded verdict_text inches digits leading month_line season_line totals
+unfolding whole_report report_of outcome_of reading_of read_from found_at station_at day_at word_at signed_of signed_at day_line padded verdict_text inches digits leading month_line season_line totals
 two_codes_lem = (λ i. told (codes_worked i)) ∙ in_turn two_codes codes_worked
