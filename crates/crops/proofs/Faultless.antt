@@ -1,7 +1,7 @@
 -- What a crop that is not refused is known to be (`faultless`), and what follows: L, i, r, what stands above L and its share are in their ranges. Assumes
 -- nothing.
 use mathlib.Core.Path.{◌≡◌, refl, sym, subst}
-use mathlib.Core.Bool.{Bool, true, false, cond, ◌&&◌}
+use mathlib.Core.Bool.{Bool, true, false, cond, ◌&&◌, ◌||◌}
 use mathlib.Core.List.{List, [], ◌∷◌}
 use Prim.Native.Nat.{ℕ, zero, suc, ◌+◌, ◌-◌, ◌*◌, ◌≤◌, ◌<◌, zero-le}
 use native.Mathlib.Nat.{mod-lt, mul-le-mul_right, div-lt_iff_lt-mul}
@@ -9,6 +9,7 @@ use native.Mathlib.Omega.{arith}
 use borrow.Author.Tests.{ltb-false, leb-false, leb-true}
 use lib.Dec.{T, ltb, leb, eqb}
 use lib.ListN.{get_or}
+use Rattle.std.specs.List.{list_any}
 use Rattle.day.proofs.Tests.{all_false}
 use Rattle.crops.specs.Crop.{over_any, crop_faults, bad_crop, in_season, L, i, r, p, above}
 use Rattle.crops.specs.Share.{share_on, ShareInRange}
@@ -19,6 +20,15 @@ pub record Faultless (c : Crop) : Type 0 where
   pub start_full : c.start < c.full
   pub full_high : c.full ≤ 365
   pub stage_high : (stage : ℕ) → p c stage ≤ 200
+
+-- the test of each percentage, as a search for one that passes it
+pub over_any_lem : (ps : List ℕ) → list_any (ltb 200) ps ≡ over_any ps
+over_any_lem [] = refl
+over_any_lem (x ∷ ps) = by (ltb 200 x) (over_any_lem ps)
+  where
+    by : (b : Bool) {y z : Bool} → y ≡ z → (b || y) ≡ cond b true z
+    by true e = refl
+    by false e = e
 
 none_over : (ps : List ℕ) → over_any ps ≡ false → (stage : ℕ) → get_or ps stage 0 ≤ 200
 none_over [] e stage = zero-le

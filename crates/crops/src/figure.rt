@@ -5,11 +5,15 @@ ghost use Rattle.crops.specs.Share.{ShareInRange, share_figure};
 
 use crate::Share;
 
-// To the nearest, halves up, of a reference figure of n ten-thousandths of an inch.
-pub fn crop_figure(share: Share, n: u32) -> u32
-    requires { ShareInRange share × (n ≤ largest_figure) }
-    ensures { result ≡ share_figure share n }
-{
-    let whole = 100 * (share.length as u64);
-    ((2 * ((n as u64) * (share.above as u64)) + whole) / (2 * whole)) as u32
+impl Share {
+    // To the nearest, halves up, of a reference figure of n ten-thousandths of an inch.
+    #[tactic(auto, unfolding(crate::specs::Share::share_figure))]
+    pub fn figure(self, n: u32) -> u32
+        requires in_range { ShareInRange self }
+        requires figure { n ≤ largest_figure }
+        ensures { result ≡ share_figure self n }
+    {
+        let whole = 100 * (self.length as u64);
+        ((2 * ((n as u64) * (self.above as u64)) + whole) / (2 * whole)) as u32
+    }
 }

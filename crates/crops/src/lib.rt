@@ -17,17 +17,11 @@ pub struct Crop {
     pub stages: [u8; 11],
 }
 
-// A crop's share of a day's figure: its letters, and its percentage as what stands above L, and L.
+// A crop's share of a day's figure: its letters, and its percentage as what stands above L, and L. Their range is a clause (`ShareInRange`) and no ghost
+// field, since `share_on` in specs/Share.antt is a share of every crop, a refused one too.
 #[derive(Clone, Copy)]
 pub struct Share {
     pub code: Code,
     pub above: u32,
     pub length: u32,
-}
-
-// What grows on a day: a crop, with its share, or nothing.
-#[derive(Clone, Copy)]
-pub enum Growing {
-    Crop(Share),
-    Nothing,
 }
