@@ -7,3 +7,4 @@ pub mod Bodies
 pub mod FoundThere
 pub mod Part
 pub mod Examples
+pub mod Held
