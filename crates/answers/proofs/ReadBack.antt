@@ -1,26 +1,33 @@
 -- What the bytes of an answer say where they stand: its kind, its code or its date, and its value. So the answer is known from them (`is_station`,
--- `is_crop`, `is_figure`, `is_estimate`, `is_refusal`), as a refusal is from its number (`one_number`). Assumes nothing.
+-- `is_crop`, `is_figure`, `is_estimate`, `is_refusal`). Assumes nothing.
 use mathlib.Core.Path.{◌≡◌, refl, sym, ap, ◌∙◌}
 use mathlib.Core.Bool.{cond}
 use mathlib.Core.Logic.{◌≢◌}
 use mathlib.Core.List.{List, ◌++◌}
+use Rattle.std.specs.Prelude.{Result, Ok, Err, IsOk}
+use Rattle.std.proofs.lemmas.Result.{MatchResult-at_ok}
 use Prim.Native.Nat.{ℕ, ◌+◌, ◌*◌, ◌-◌, ◌≤◌}
 use native.Mathlib.Omega.{arith}
 use lib.Dec.{eqb}
 use lib.ListN.{length, get_or, length-append, length-drop}
 use lib.Seq.{get_or-drop}
-use Rattle.day.specs.Rules.{number_of}
+use Rattle.day.specs.Rules.{number_of, RefusalOf}
 use Rattle.day.specs.declared.Code.{Code}
 use Rattle.day.specs.declared.Refusal.{Refusal}
-use Rattle.day.specs.declared.Refusal.TheVariants.{StationField, BadDate, Missing, OutOfRange, OutOfOrder, AboveClear}
+use Rattle.day.specs.declared.UnknownRefusal.{UnknownRefusal}
 use Rattle.day.specs.declared.Verdict.{Verdict}
 use Rattle.day.specs.declared.Verdict.TheVariants.{Figure, Refused, Estimated}
+use Rattle.day.proofs.Numbers.{refusal_told}
 use Rattle.records.specs.Bytes.{word_at}
 use Rattle.records.specs.Record.{code_at}
 use Rattle.answers.specs.Answers.{kind_of, value_of, answer_bytes}
+use Rattle.answers.specs.Kinds.{kind_number, KindOf}
 use Rattle.answers.specs.ReadBack.{StandsAt}
 use Rattle.answers.specs.declared.Answer.{Answer}
 use Rattle.answers.specs.declared.Answer.TheVariants as answer
+use Rattle.answers.specs.declared.kind.Kind.{Kind}
+use Rattle.answers.specs.declared.kind.Kind.TheVariants as kind
+use Rattle.answers.specs.declared.kind.UnknownKind.{UnknownKind}
 
 pub record StationTold (s : List ℕ) (at : ℕ) (c : Code) : Type 0 where
   pub inside : at + 5 ≤ length s
@@ -96,41 +103,49 @@ module _ {s : List ℕ} {at : ℕ} where
   pub crop_tells : {c : Code} {n : ℕ} → StandsAt s at (answer.Crop c n) → CropTold s at c n
   crop_tells h = record { inside = omega (arith, left h); kind = byte h at 0 (omega arith); code = letters h; value = omega (arith, value_told h) }
 
--- ---- no two refusals have one number
-
-why_of : ℕ → Refusal
-why_of n =
-    cond (eqb n 3) StationField
-    (cond (eqb n 6) BadDate
-    (cond (eqb n 7) Missing
-    (cond (eqb n 8) OutOfRange
-    (cond (eqb n 9) OutOfOrder
-    AboveClear))))
-
-given_back : (why : Refusal) → why_of (number_of why) ≡ why
-unfolding why_of
-given_back StationField = refl
-given_back BadDate = refl
-given_back Missing = refl
-given_back OutOfRange = refl
-given_back OutOfOrder = refl
-given_back AboveClear = refl
-
-pub one_number : (a b : Refusal) → number_of a ≡ number_of b → a ≡ b
-one_number a b e = sym (given_back a) ∙ ap why_of e ∙ given_back b
-
 -- ---- the answer that stands at an index
 
-module _ {s : List ℕ} {at : ℕ} where
-  pub five_there : (a : Answer) → StandsAt s at a → at + 5 ≤ length s
-  five_there (answer.Station c) h = (station_tells h).inside
-  five_there (answer.Day year d v) h = omega (arith, (day_tells h).inside)
-  five_there (answer.Crop c n) h = omega (arith, (crop_tells h).inside)
+abbrev kind_in : Answer → Kind
+kind_in (answer.Station c) = kind.Station
+kind_in (answer.Day year d (Figure n)) = kind.Figure
+kind_in (answer.Day year d (Refused why)) = kind.Refusal
+kind_in (answer.Day year d (Estimated n)) = kind.Estimate
+kind_in (answer.Crop c n) = kind.Crop
 
-  pub nine_there : get_or s at 0 ≢ 5 → (a : Answer) → StandsAt s at a → at + 9 ≤ length s
-  nine_there other (answer.Station c) h = absurd (other (station_tells h).kind)
-  nine_there other (answer.Day year d v) h = (day_tells h).inside
-  nine_there other (answer.Crop c n) h = (crop_tells h).inside
+-- how many bytes an answer has, by its kind's number
+abbrev size_by : ℕ → ℕ
+size_by n = cond (eqb n 5) 5 9
+
+-- the number of a kind that was found
+pub number_told : {n : ℕ} {r : Result Kind UnknownKind} {k : Kind} → KindOf n r → r ≡ Ok k → n ≡ kind_number k
+number_told {n} {r} {k} h e = sym (MatchResult-at_ok (λ k. kind_number k ≡ n) _ k e h)
+
+module _ {s : List ℕ} {at : ℕ} where
+  first_byte : (a : Answer) → StandsAt s at a → get_or s at 0 ≡ kind_number (kind_in a)
+  first_byte (answer.Station c) h = (station_tells h).kind
+  first_byte (answer.Day year d (Figure n)) h = (day_tells h).kind
+  first_byte (answer.Day year d (Refused why)) h = (day_tells h).kind
+  first_byte (answer.Day year d (Estimated n)) h = (day_tells h).kind
+  first_byte (answer.Crop c n) h = (crop_tells h).kind
+
+  -- an answer has a kind
+  pub some_kind : (r : Result Kind UnknownKind) → KindOf (get_or s at 0) r → (a : Answer) → StandsAt s at a → IsOk r
+  some_kind (Ok k) h a there = refl
+  some_kind (Err e) h a there = absurd (h.1 (kind_in a) (sym (first_byte a there)))
+
+  inside : (a : Answer) → StandsAt s at a → at + size_by (kind_number (kind_in a)) ≤ length s
+  inside (answer.Station c) there = (station_tells there).inside
+  inside (answer.Day year d (Figure n)) there = (day_tells there).inside
+  inside (answer.Day year d (Refused why)) there = (day_tells there).inside
+  inside (answer.Day year d (Estimated n)) there = (day_tells there).inside
+  inside (answer.Crop c n) there = (crop_tells there).inside
+
+  -- all its bytes are there
+  pub room : {r : Result Kind UnknownKind} {k : Kind} → KindOf (get_or s at 0) r → r ≡ Ok k → (a : Answer) → StandsAt s at a
+      → at + size_by (kind_number k) ≤ length s
+  room {r} {k} h e a there =
+      let same : kind_number k ≡ kind_number (kind_in a) = sym (number_told h e) ∙ first_byte a there in
+      rw same (inside a there)
 
   -- kind 5
   pub is_station : get_or s at 0 ≡ 5 → {c : Code} → c ≡ code_at s (at + 1) → (a : Answer) → StandsAt s at a → answer.Station c ≡ a
@@ -184,3 +199,17 @@ module _ {s : List ℕ} {at : ℕ} where
     is_refusal no-figure no-estimate is (answer.Day y e (Refused why)) h = same (day_tells h) (ap Refused (is why (is_value ∙ (day_tells h).value)))
     is_refusal no-figure no-estimate is (answer.Day y e (Estimated m)) h = absurd (no-estimate (day_tells h).kind)
     is_refusal no-figure no-estimate is (answer.Crop c m) h = absurd (no-crop (crop_tells h).kind)
+
+  -- a refusal's number is there
+  pub some_refusal : get_or s at 0 ≡ 4 → {n : ℕ} → n ≡ word_at s (at + 5) * 65536 + word_at s (at + 5 + 2) → (r : Result Refusal UnknownRefusal)
+      → RefusalOf n r → (a : Answer) → StandsAt s at a → IsOk r
+  some_refusal four is_value r told (answer.Station c) h = absurd (omega (arith, four, (station_tells h).kind))
+  some_refusal four is_value r told (answer.Day y e (Figure m)) h = absurd (omega (arith, four, (day_tells h).kind))
+  some_refusal four is_value r told (answer.Day y e (Refused why)) h = rw (refusal_told why r (is_value ∙ (day_tells h).value) told) refl
+  some_refusal four is_value r told (answer.Day y e (Estimated m)) h = absurd (omega (arith, four, (day_tells h).kind))
+  some_refusal four is_value r told (answer.Crop c m) h = absurd (omega (arith, four, (crop_tells h).kind))
+
+-- the refusal that was found is the one with the number
+pub refusal_is : {n : ℕ} {r : Result Refusal UnknownRefusal} {found : Refusal} → RefusalOf n r → r ≡ Ok found
+    → (why : Refusal) → n ≡ number_of why → found ≡ why
+refusal_is {r = r} told e why is = let f = refusal_told why r is told in cc

@@ -1,8 +1,12 @@
 // The answers to a log as values, and their bytes: written to a lent buffer, and read back from it.
 #![tactic(auto)]
 
+ghost use Rattle.std.specs.Prelude.{◌≡◌, length};
+ghost use Rattle.answers.specs.Answers.{answer_bytes};
+
 use day::{Code, Verdict};
 
+pub mod kind;
 pub mod read_back;
 pub mod writing;
 
@@ -19,4 +23,17 @@ pub enum Answer {
     Station(Code),
     Day(u16, u16, Verdict),
     Crop(Code, u32),
+}
+
+impl Answer {
+    // How many bytes it has.
+    pub fn size(self) -> usize
+        ensures { result ≡ length (answer_bytes self) }
+    {
+        match self {
+            Answer::Station(_) => STATION_SIZE,
+            Answer::Day(_, _, _) => DAY_SIZE,
+            Answer::Crop(_, _) => CROP_SIZE,
+        }
+    }
 }

@@ -1,38 +1,59 @@
 -- `answers::read_back::answer_at` meets its contract. Assumes nothing.
+use mathlib.Core.Path.{refl}
 use native.Mathlib.Omega.{arith}
-use Rattle.answers.proofs.ReadBack.{five_there, nine_there, is_station, is_crop, is_figure, is_estimate, is_refusal}
+use Rattle.answers.proofs.ReadBack.{number_told, some_kind, room, is_crop, is_figure, is_estimate, is_refusal, some_refusal, refusal_is}
 use Rattle.answers.proofs.read_back.answer_at.Goals as goal
 
+pub unwrap-requires : goal.unwrap-requires
+unwrap-requires c = some_kind _ c.try_from.ensures c.requires.0 c.requires.1
+
 pub code_at-requires : goal.code_at-requires
-code_at-requires c = omega (arith, five_there c.requires.0 c.requires.1)
+code_at-requires c = omega (arith, room c.try_from.ensures c.in-Station.ensures c.requires.0 c.requires.1)
 
-pub four_at-value-requires : goal.four_at-value-requires
-four_at-value-requires c = omega (arith, nine_there c.if-kind-eq5.false c.requires.0 c.requires.1)
+pub code_at-requires-in-Crop : goal.code_at-requires-in-Crop
+code_at-requires-in-Crop c = omega (arith, room c.try_from.ensures c.in-Crop.ensures c.requires.0 c.requires.1)
 
-pub code_at-requires-then-kind-eq7 : goal.code_at-requires-then-kind-eq7
-code_at-requires-then-kind-eq7 c = omega (arith, nine_there c.if-kind-eq5.false c.requires.0 c.requires.1)
+pub four_at-requires : goal.four_at-requires
+four_at-requires c = omega (arith, room c.try_from.ensures c.in-Crop.ensures c.requires.0 c.requires.1)
 
-pub word-year-requires : goal.word-year-requires
-word-year-requires c = omega (arith, nine_there c.if-kind-eq5.false c.requires.0 c.requires.1)
+pub four_at-requires-in-Figure : goal.four_at-requires-in-Figure
+four_at-requires-in-Figure c = omega (arith, room c.try_from.ensures c.in-Figure.ensures c.requires.0 c.requires.1)
 
-pub word-d-requires : goal.word-d-requires
-word-d-requires c = omega (arith, nine_there c.if-kind-eq5.false c.requires.0 c.requires.1)
+pub day_at-requires : goal.day_at-requires
+day_at-requires c = omega (arith, room c.try_from.ensures c.in-Figure.ensures c.requires.0 c.requires.1)
 
-pub returns-then-kind-eq5 : goal.returns-then-kind-eq5
-returns-then-kind-eq5 c = is_station c.if-kind-eq5.true c.code_at.ensures
+pub four_at-requires-in-Estimate : goal.four_at-requires-in-Estimate
+four_at-requires-in-Estimate c = omega (arith, room c.try_from.ensures c.in-Estimate.ensures c.requires.0 c.requires.1)
 
-pub returns-then-kind-eq7 : goal.returns-then-kind-eq7
-returns-then-kind-eq7 c = is_crop c.if-kind-eq7.true c.code_at-then-kind-eq7.ensures c.four_at-value.ensures
+pub day_at-requires-in-Estimate : goal.day_at-requires-in-Estimate
+day_at-requires-in-Estimate c = omega (arith, room c.try_from.ensures c.in-Estimate.ensures c.requires.0 c.requires.1)
 
-pub returns-then-kind-eq3 : goal.returns-then-kind-eq3
-returns-then-kind-eq3 c =
-    is_figure c.if-kind-eq5.false c.if-kind-eq7.false c.word-year.ensures c.word-d.ensures c.four_at-value.ensures c.if-kind-eq3.true
+pub four_at-requires-in-Refusal : goal.four_at-requires-in-Refusal
+four_at-requires-in-Refusal c = omega (arith, room c.try_from.ensures c.in-Refusal.ensures c.requires.0 c.requires.1)
 
-pub returns-then-kind-eq9 : goal.returns-then-kind-eq9
-returns-then-kind-eq9 c =
-    is_estimate c.if-kind-eq5.false c.if-kind-eq7.false c.word-year.ensures c.word-d.ensures c.four_at-value.ensures c.if-kind-eq9.true
+pub day_at-requires-in-Refusal : goal.day_at-requires-in-Refusal
+day_at-requires-in-Refusal c = omega (arith, room c.try_from.ensures c.in-Refusal.ensures c.requires.0 c.requires.1)
 
-pub returns : goal.returns
-returns c =
-    is_refusal c.if-kind-eq5.false c.if-kind-eq7.false c.word-year.ensures c.word-d.ensures c.four_at-value.ensures c.if-kind-eq3.false
-    c.if-kind-eq9.false c.refusal_of.ensures
+pub unwrap-why-requires : goal.unwrap-why-requires
+unwrap-why-requires c =
+    let k = number_told c.try_from.ensures c.in-Refusal.ensures in
+    some_refusal k c.four_at-in-Refusal.ensures _ c.try_from-in-Refusal.ensures c.requires.0 c.requires.1
+
+pub returns-in-Crop : goal.returns-in-Crop
+returns-in-Crop c = is_crop (number_told c.try_from.ensures c.in-Crop.ensures) c.code_at-in-Crop.ensures c.four_at.ensures
+
+pub returns-in-Figure : goal.returns-in-Figure
+returns-in-Figure c =
+    let k = number_told c.try_from.ensures c.in-Figure.ensures in
+    rw c.day_at.ensures (is_figure (omega (arith, k)) (omega (arith, k)) refl refl c.four_at-in-Figure.ensures k)
+
+pub returns-in-Estimate : goal.returns-in-Estimate
+returns-in-Estimate c =
+    let k = number_told c.try_from.ensures c.in-Estimate.ensures in
+    rw c.day_at-in-Estimate.ensures (is_estimate (omega (arith, k)) (omega (arith, k)) refl refl c.four_at-in-Estimate.ensures k)
+
+pub returns-in-Refusal : goal.returns-in-Refusal
+returns-in-Refusal c =
+    let k = number_told c.try_from.ensures c.in-Refusal.ensures in
+    rw c.day_at-in-Refusal.ensures
+    (is_refusal (omega (arith, k)) (omega (arith, k)) refl refl c.four_at-in-Refusal.ensures (omega (arith, k)) (omega (arith, k)) (refusal_is c.try_from-in-Refusal.ensures c.unwrap-why.ensures))
