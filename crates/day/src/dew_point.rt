@@ -6,14 +6,11 @@ use crate::rules::{MISSING, other_missing};
 use crate::{Day, Verdict};
 
 // Whether the dew point is the only reading missing.
+#[tactic(auto, unfolding(crate::specs::Judgement::lacks_dew_point))]
 fn lacks_dew_point(day: Day) -> bool
     ensures { result ≡ lacks_dew_point day }
 {
-    let dewpoint = day.dewpoint;
-    if dewpoint == MISSING {
-        return !other_missing(day.maximum, day.minimum, day.mean, day.radiation, day.wind);
-    }
-    false
+    day.dewpoint == MISSING && !other_missing(day)
 }
 
 // The dew point, or the minimum in its place.

@@ -2,7 +2,7 @@
 #![tactic(auto)]
 
 ghost use Rattle.std.specs.Prelude.{◌≡◌};
-ghost use Rattle.day.specs.Rules.{number_of, RefusalOf};
+ghost use Rattle.day.specs.Rules.{any_of, code_faults, number_of, RefusalOf};
 
 pub mod calendar;
 pub mod dew_point;
@@ -11,6 +11,8 @@ pub mod judge;
 pub mod readings;
 pub mod refusals;
 pub mod rules;
+
+use rules::not_capital;
 
 // A station's four capitals.
 #[derive(Clone, Copy)]
@@ -78,6 +80,18 @@ pub enum Verdict {
     Figure(u32),
     Refused(Refusal),
     Estimated(u32),
+}
+
+impl Code {
+    // Whether a letter is no capital.
+    pub fn is_bad(self) -> bool
+        ensures { result ≡ any_of (code_faults self.first self.second self.third self.fourth) }
+    {
+        not_capital(self.first)
+            || not_capital(self.second)
+            || not_capital(self.third)
+            || not_capital(self.fourth)
+    }
 }
 
 // Its number on an answer.

@@ -1,7 +1,36 @@
 // The kinds of readings, and a station's fields that have a range, each with its own.
-ghost use Rattle.std.specs.Prelude.{◌≡◌, pos};
-ghost use Rattle.numbers.specs.Ranges.{in_range};
+ghost use Rattle.std.specs.Prelude.{◌≡◌, ◌&&◌, ℤ, pos, negsuc, refl};
+ghost use Rattle.std.specs.Int.Signed.{le_z};
+ghost use Rattle.numbers.specs.Ranges.{Range, in_range};
 ghost use Rattle.sheet.specs.Limits as limits;
+
+// A kind of number that has a range, ends included.
+pub trait Ranged: Copy {
+    ghost range: { Range };
+
+    ghost number: { Self → ℤ };
+
+    ghost LOW: { ℤ };
+
+    ghost HIGH: { ℤ };
+
+    const LOW: i32;
+
+    const HIGH: i32;
+
+    fn number(self) -> i32
+        ensures { result ≡ number self };
+
+    final fn in_range(self) -> bool
+        ensures { result ≡ in_range range (number self) }
+    {
+        let x = self.number();
+        Self::LOW <= x && x <= Self::HIGH
+    }
+
+    // The two ends are those of the range.
+    ghost ends: { (z : ℤ) → in_range range z ≡ (le_z LOW z && le_z z HIGH) };
+}
 
 // A temperature in tenths of a degree Fahrenheit.
 #[derive(Clone, Copy)]
@@ -9,16 +38,23 @@ pub struct Temperature {
     pub tenths: i16,
 }
 
-impl Temperature {
-    pub const LOW: i16 = -94;
+impl Ranged for Temperature {
+    ghost range = { limits.temperature };
 
-    pub const HIGH: i16 = 1_291;
+    ghost number = { λ x. x.tenths };
 
-    pub fn in_range(self) -> bool
-        ensures { result ≡ in_range limits.temperature self.tenths }
-    {
-        let t = self.tenths;
-        Temperature::LOW <= t && t <= Temperature::HIGH
+    ghost LOW = { negsuc 93 };
+
+    ghost HIGH = { pos 1_291 };
+
+    ghost ends = { λ z. refl };
+
+    const LOW: i32 = -94;
+
+    const HIGH: i32 = 1_291;
+
+    fn number(self) -> i32 {
+        i32::from(self.tenths)
     }
 }
 
@@ -28,16 +64,23 @@ pub struct Radiation {
     pub tenths: i16,
 }
 
-impl Radiation {
-    pub const LOW: i16 = 0;
+impl Ranged for Radiation {
+    ghost range = { limits.radiation };
 
-    pub const HIGH: i16 = 12_000;
+    ghost number = { λ x. x.tenths };
 
-    pub fn in_range(self) -> bool
-        ensures { result ≡ in_range limits.radiation self.tenths }
-    {
-        let t = self.tenths;
-        Radiation::LOW <= t && t <= Radiation::HIGH
+    ghost LOW = { pos 0 };
+
+    ghost HIGH = { pos 12_000 };
+
+    ghost ends = { λ z. refl };
+
+    const LOW: i32 = 0;
+
+    const HIGH: i32 = 12_000;
+
+    fn number(self) -> i32 {
+        i32::from(self.tenths)
     }
 }
 
@@ -47,16 +90,23 @@ pub struct Wind {
     pub tenths: i16,
 }
 
-impl Wind {
-    pub const LOW: i16 = 0;
+impl Ranged for Wind {
+    ghost range = { limits.wind };
 
-    pub const HIGH: i16 = 9_999;
+    ghost number = { λ x. x.tenths };
 
-    pub fn in_range(self) -> bool
-        ensures { result ≡ in_range limits.wind self.tenths }
-    {
-        let t = self.tenths;
-        Wind::LOW <= t && t <= Wind::HIGH
+    ghost LOW = { pos 0 };
+
+    ghost HIGH = { pos 9_999 };
+
+    ghost ends = { λ z. refl };
+
+    const LOW: i32 = 0;
+
+    const HIGH: i32 = 9_999;
+
+    fn number(self) -> i32 {
+        i32::from(self.tenths)
     }
 }
 
@@ -66,16 +116,23 @@ pub struct ClearMinimum {
     pub calories: u16,
 }
 
-impl ClearMinimum {
-    pub const LOW: u16 = 50;
+impl Ranged for ClearMinimum {
+    ghost range = { limits.clear_minimum };
 
-    pub const HIGH: u16 = 200;
+    ghost number = { λ x. pos x.calories };
 
-    pub fn in_range(self) -> bool
-        ensures { result ≡ in_range limits.clear_minimum (pos self.calories) }
-    {
-        let c = self.calories;
-        ClearMinimum::LOW <= c && c <= ClearMinimum::HIGH
+    ghost LOW = { pos 50 };
+
+    ghost HIGH = { pos 200 };
+
+    ghost ends = { λ z. refl };
+
+    const LOW: i32 = 50;
+
+    const HIGH: i32 = 200;
+
+    fn number(self) -> i32 {
+        i32::from(self.calories)
     }
 }
 
@@ -85,16 +142,23 @@ pub struct Elevation {
     pub metres: u16,
 }
 
-impl Elevation {
-    pub const LOW: u16 = 0;
+impl Ranged for Elevation {
+    ghost range = { limits.elevation };
 
-    pub const HIGH: u16 = 3_000;
+    ghost number = { λ x. pos x.metres };
 
-    pub fn in_range(self) -> bool
-        ensures { result ≡ in_range limits.elevation (pos self.metres) }
-    {
-        let m = self.metres;
-        Elevation::LOW <= m && m <= Elevation::HIGH
+    ghost LOW = { pos 0 };
+
+    ghost HIGH = { pos 3_000 };
+
+    ghost ends = { λ z. refl };
+
+    const LOW: i32 = 0;
+
+    const HIGH: i32 = 3_000;
+
+    fn number(self) -> i32 {
+        i32::from(self.metres)
     }
 }
 
@@ -105,15 +169,26 @@ pub struct WindLimit {
 }
 
 impl WindLimit {
-    pub const LOW: u16 = 1_000;
-
     // The routine's, and the highest.
     pub const ROUTINE: u16 = 1_500;
+}
 
-    pub fn in_range(self) -> bool
-        ensures { result ≡ in_range limits.wind_limit (pos self.tenths) }
-    {
-        let t = self.tenths;
-        WindLimit::LOW <= t && t <= WindLimit::ROUTINE
+impl Ranged for WindLimit {
+    ghost range = { limits.wind_limit };
+
+    ghost number = { λ x. pos x.tenths };
+
+    ghost LOW = { pos 1_000 };
+
+    ghost HIGH = { pos 1_500 };
+
+    ghost ends = { λ z. refl };
+
+    const LOW: i32 = 1_000;
+
+    const HIGH: i32 = WindLimit::ROUTINE as i32;
+
+    fn number(self) -> i32 {
+        i32::from(self.tenths)
     }
 }

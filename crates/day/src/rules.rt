@@ -1,116 +1,60 @@
-// The rules by which a station or a day is refused before the sheet is worked. Each function says whether its refusal holds.
+// The rules by which a letter or a day is refused before the sheet is worked. Each function says whether its refusal holds.
 ghost use Rattle.std.specs.Prelude.{◌≡◌};
-ghost use Rattle.day.specs.Rules.{not_capital, station_faults, other_marks, missing_marks, reading_faults, mean_fault, order_faults};
-ghost use Rattle.day.specs.Rules.{any_of};
+ghost use Rattle.day.specs.Rules.{not_capital, any_of, other_marks, missing_marks, reading_faults, mean_fault, order_faults};
 
-use crate::readings::{ClearMinimum, Elevation, Radiation, Temperature, Wind, WindLimit};
+use crate::Day;
+use crate::readings::{Radiation, Ranged, Temperature, Wind};
 
 // The mark of a missing reading.
 pub const MISSING: i16 = -32_768;
 
-// Whether a letter of a code is no capital.
+// Whether a letter is no capital.
 pub fn not_capital(x: u8) -> bool
     ensures { result ≡ not_capital x }
 {
-    x < 65 || 90 < x
-}
-
-// Refusal 3: a letter of the code that is no capital, or the clear-day minimum, the elevation or the wind limit out of range.
-pub fn station_field_out_of_range(
-    first: u8,
-    second: u8,
-    third: u8,
-    fourth: u8,
-    minimum: u16,
-    elevation: u16,
-    limit: u16,
-) -> bool
-    ensures { result ≡ any_of (station_faults first second third fourth minimum elevation limit) }
-{
-    if not_capital(first) {
-        return true;
-    }
-    if not_capital(second) {
-        return true;
-    }
-    if not_capital(third) {
-        return true;
-    }
-    if not_capital(fourth) {
-        return true;
-    }
-    if !(ClearMinimum { calories: minimum }).in_range() {
-        return true;
-    }
-    if !(Elevation { metres: elevation }).in_range() {
-        return true;
-    }
-    !(WindLimit { tenths: limit }).in_range()
+    !x.is_ascii_uppercase()
 }
 
 // A reading other than the dew point is missing.
-pub fn other_missing(maximum: i16, minimum: i16, mean: i16, radiation: i16, wind: i16) -> bool
-    ensures { result ≡ any_of (other_marks maximum minimum mean radiation wind) }
+pub fn other_missing(day: Day) -> bool
+    ensures { result ≡ any_of (other_marks day.maximum day.minimum day.mean day.radiation day.wind) }
 {
-    if maximum == MISSING {
-        return true;
-    }
-    if minimum == MISSING {
-        return true;
-    }
-    if mean == MISSING {
-        return true;
-    }
-    if radiation == MISSING {
-        return true;
-    }
-    wind == MISSING
+    day.maximum == MISSING
+        || day.minimum == MISSING
+        || day.mean == MISSING
+        || day.radiation == MISSING
+        || day.wind == MISSING
 }
 
 // Refusal 7: one of the six readings is missing.
-pub fn some_missing(
-    maximum: i16,
-    minimum: i16,
-    mean: i16,
-    dewpoint: i16,
-    radiation: i16,
-    wind: i16,
-) -> bool
-    ensures { result ≡ any_of (missing_marks maximum minimum mean dewpoint radiation wind) }
+pub fn some_missing(day: Day) -> bool
+    ensures { result ≡ any_of (missing_marks day.maximum day.minimum day.mean day.dewpoint day.radiation day.wind) }
 {
-    if dewpoint == MISSING {
-        return true;
-    }
-    other_missing(maximum, minimum, mean, radiation, wind)
+    day.dewpoint == MISSING || other_missing(day)
 }
 
 // Refusal 8: one of the six readings is out of its range.
-pub fn some_out_of_range(
-    maximum: i16,
-    minimum: i16,
-    mean: i16,
-    dewpoint: i16,
-    radiation: i16,
-    wind: i16,
-) -> bool
-    ensures { result ≡ any_of (reading_faults maximum minimum mean dewpoint radiation wind) }
+pub fn some_out_of_range(day: Day) -> bool
+    ensures { result ≡ any_of (reading_faults day.maximum day.minimum day.mean day.dewpoint day.radiation day.wind) }
 {
-    if !(Temperature { tenths: maximum }).in_range() {
-        return true;
+    !Temperature {
+        tenths: day.maximum,
     }
-    if !(Temperature { tenths: minimum }).in_range() {
-        return true;
-    }
-    if !(Temperature { tenths: mean }).in_range() {
-        return true;
-    }
-    if !(Temperature { tenths: dewpoint }).in_range() {
-        return true;
-    }
-    if !(Radiation { tenths: radiation }).in_range() {
-        return true;
-    }
-    !(Wind { tenths: wind }).in_range()
+    .in_range()
+        || !Temperature {
+            tenths: day.minimum,
+        }
+        .in_range()
+        || !Temperature { tenths: day.mean }.in_range()
+        || !Temperature {
+            tenths: day.dewpoint,
+        }
+        .in_range()
+        || !Radiation {
+            tenths: day.radiation,
+        }
+        .in_range()
+        || !Wind { tenths: day.wind }.in_range()
 }
 
 // Refusal 8 again: an earlier mean that is present but out of range.
@@ -118,20 +62,14 @@ pub fn mean_out_of_range(mean: Option<i16>) -> bool
     ensures { result ≡ mean_fault mean }
 {
     match mean {
-        Some(f) => !(Temperature { tenths: f }).in_range(),
+        Some(f) => !Temperature { tenths: f }.in_range(),
         None => false,
     }
 }
 
 // Refusal 9: minimum > mean, mean > maximum, or dew point > maximum.
-pub fn out_of_order(maximum: i16, minimum: i16, mean: i16, dewpoint: i16) -> bool
-    ensures { result ≡ any_of (order_faults maximum minimum mean dewpoint) }
+pub fn out_of_order(day: Day) -> bool
+    ensures { result ≡ any_of (order_faults day.maximum day.minimum day.mean day.dewpoint) }
 {
-    if mean < minimum {
-        return true;
-    }
-    if maximum < mean {
-        return true;
-    }
-    maximum < dewpoint
+    day.mean < day.minimum || day.maximum < day.mean || day.maximum < day.dewpoint
 }
