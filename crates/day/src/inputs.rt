@@ -12,48 +12,19 @@ use crate::{Day, Station};
 use sheet::{Entries, Readings};
 use tables::DayTable;
 
-// A reading or a constant of two bytes, signed, as the sheet takes it.
-pub fn wide(x: i16) -> i64
-    ensures { (result ≡ x) × InRange quantities.signed_word result }
-{
-    x as i64
-}
-
-// A field of two bytes, without sign.
-pub fn wide_unsigned(x: u16) -> i64
-    ensures { (result ≡ pos x) × InRange (from 0 to 65535) result }
-{
-    x as i64
-}
-
-// An entry of a table.
-fn wide_entry(x: u32) -> i64
-    ensures { result ≡ pos x }
-{
-    x as i64
-}
-
 // The readings as the sheet takes them.
 #[tactic(auto, unfolding(crate::specs::Judgement::readings_of))]
 pub fn readings_of(day: Day) -> Readings
     ensures { result ≡ readings_of day }
 {
     Readings {
-        maximum: wide(day.maximum),
-        minimum: wide(day.minimum),
-        mean: wide(day.mean),
-        dewpoint: wide(day.dewpoint),
-        radiation: wide(day.radiation),
-        wind: wide(day.wind),
+        maximum: i64::from(day.maximum),
+        minimum: i64::from(day.minimum),
+        mean: i64::from(day.mean),
+        dewpoint: i64::from(day.dewpoint),
+        radiation: i64::from(day.radiation),
+        wind: i64::from(day.wind),
     }
-}
-
-// The pressure p at the elevation.
-fn pressure_at(elevation: u16) -> i64
-    requires { elevation ≤ 3000 }
-    ensures { (result ≡ pos (pressure_at elevation)) × InRange quantities.pressure result }
-{
-    wide_entry(tables::pressure(elevation as usize))
 }
 
 // The tables' entries at the day d and at the elevation.
@@ -61,13 +32,13 @@ pub fn entries_at(d: u16, elevation: u16) -> Entries
     requires { (1 ≤ d) × (d ≤ 366) × (elevation ≤ 3000) }
     ensures { result ≡ entries_at d elevation }
 {
-    let day = d as usize;
+    let day = usize::from(d);
     Entries {
-        albedo: wide_entry(DayTable::Albedo.entry(day)),
-        a1: wide_entry(DayTable::A1.entry(day)),
-        aw: wide_entry(DayTable::Aw.entry(day)),
-        bw: wide_entry(DayTable::Bw.entry(day)),
-        p: pressure_at(elevation),
+        albedo: i64::from(DayTable::Albedo.entry(day)),
+        a1: i64::from(DayTable::A1.entry(day)),
+        aw: i64::from(DayTable::Aw.entry(day)),
+        bw: i64::from(DayTable::Bw.entry(day)),
+        p: i64::from(tables::pressure(usize::from(elevation))),
     }
 }
 
@@ -77,24 +48,21 @@ pub fn clear_of(station: Station, day: Day) -> i64
     ensures { (result ≡ clear_of station day) × InRange quantities.clear_day result }
 {
     let sum = sheet::clear::clear_sum(
-        wide(station.c1),
-        wide(station.c2),
-        wide(station.c3),
-        wide(station.c4),
-        wide(station.c5),
-        wide_unsigned(day.d),
+        i64::from(station.c1),
+        i64::from(station.c2),
+        i64::from(station.c3),
+        i64::from(station.c4),
+        i64::from(station.c5),
+        i64::from(day.d),
     );
-    sheet::clear::clear_day(wide_unsigned(station.minimum), sum)
+    sheet::clear::clear_day(i64::from(station.minimum), sum)
 }
 
 // 1 for a mean that is present.
 fn count_of(mean: Option<i16>) -> i64
     ensures { (result ≡ count_of mean) × InRange (from 0 to 1) result }
 {
-    match mean {
-        Some(_) => 1,
-        None => 0,
-    }
+    i64::from(mean.is_some())
 }
 
 // The mean, or 0 for none.
@@ -102,10 +70,7 @@ fn tenths_of(mean: Option<i16>) -> i64
     requires { mean_fault mean ≡ false }
     ensures { (result ≡ tenths_of mean) × InRange quantities.temperature result }
 {
-    match mean {
-        Some(f) => wide(f),
-        None => 0,
-    }
+    i64::from(mean.unwrap_or(0))
 }
 
 // How many means are present, and their sum.
@@ -113,10 +78,8 @@ pub fn earlier_of(earlier: crate::Earlier) -> sheet::Earlier
     requires { (mean_fault earlier.one ≡ false) × (mean_fault earlier.two ≡ false) × (mean_fault earlier.three ≡ false) }
     ensures { (result ≡ earlier_of earlier) × EarlierInRange result }
 {
-    let one = earlier.one;
-    let two = earlier.two;
-    let three = earlier.three;
-    let k = count_of(one) + (count_of(two) + count_of(three));
-    let z = tenths_of(one) + (tenths_of(two) + tenths_of(three));
-    sheet::Earlier { k, z }
+    sheet::Earlier {
+        k: count_of(earlier.one) + (count_of(earlier.two) + count_of(earlier.three)),
+        z: tenths_of(earlier.one) + (tenths_of(earlier.two) + tenths_of(earlier.three)),
+    }
 }

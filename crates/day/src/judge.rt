@@ -4,7 +4,7 @@ ghost use Rattle.day.specs.Bound.{FigureOwed, FigureInRange};
 ghost use Rattle.day.specs.Judgement.{Answered, figure_of, judged};
 
 use crate::dew_point::{as_judged, with_mark};
-use crate::inputs::{clear_of, earlier_of, entries_at, readings_of, wide_unsigned};
+use crate::inputs::{clear_of, earlier_of, entries_at, readings_of};
 use crate::refusals::standing;
 use crate::{Day, Earlier, Station, Verdict};
 
@@ -17,7 +17,7 @@ pub fn figure(station: Station, day: Day, earlier: Earlier) -> u32
     let t = entries_at(day.d, station.elevation);
     let means = earlier_of(earlier);
     let q = clear_of(station, day);
-    let limit = wide_unsigned(station.limit);
+    let limit = i64::from(station.limit);
     sheet::figure::figure(x, t, means, q, limit) as u32
 }
 

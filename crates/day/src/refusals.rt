@@ -8,7 +8,7 @@ ghost use Rattle.day.specs.Rules.{bad_station};
 ghost use Rattle.day.specs.Judgement.{out_of_range, clear_of, standing_of};
 
 use crate::calendar::is_date;
-use crate::inputs::{clear_of, wide};
+use crate::inputs::clear_of;
 use crate::readings::{ClearMinimum, Elevation, Ranged, WindLimit};
 use crate::rules::{mean_out_of_range, out_of_order, some_missing, some_out_of_range};
 use crate::{Day, Earlier, Refusal, Station};
@@ -48,9 +48,7 @@ fn above_clear(station: Station, day: Day) -> bool
     requires radiation_in_range { InRange quantities.radiation day.radiation }
     ensures { result ≡ sheet.above_twice_clear day.radiation (clear_of station day) }
 {
-    let s = wide(day.radiation);
-    let q = clear_of(station, day);
-    sheet::clear::above_twice_clear(s, q)
+    sheet::clear::above_twice_clear(i64::from(day.radiation), clear_of(station, day))
 }
 
 // The first of 3, 6, 7, 8, 9, 10 that holds, or that none does.

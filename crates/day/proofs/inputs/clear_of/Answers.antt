@@ -1,14 +1,21 @@
 -- `day::inputs::clear_of` meets its contract. Assumes nothing.
-use mathlib.Core.Path.{◌∙◌}
 use native.Mathlib.Omega.{arith}
 use lib.IntN.{pos}
+use mathlib.Core.Path.{◌∙◌}
 use mir.Syntax.{w16}
 use mir.Val.{SFits}
 use Rattle.sheet.specs.StepSheet as sheet
 use Rattle.sheet.proofs.Values.{given_back, returned}
 use Rattle.day.specs.Judgement.{clear_of}
-use Rattle.day.proofs.Tests.{widened}
+use Rattle.day.proofs.Tests.{widened, unsigned}
 use Rattle.day.proofs.inputs.clear_of.Goals as goal
+
+pub clear_sum-sum-requires-clause-in_range : goal.clear_sum-sum-requires-clause-in_range
+clear_sum-sum-requires-clause-in_range c =
+    let f1 : SFits w16 c.args.station.c1 = record { sfits = omega arith } in
+    let f2 : SFits w16 c.args.station.c2 = record { sfits = omega arith } in
+    let f3 : SFits w16 c.args.station.c3 = record { sfits = omega arith } in
+    ((widened f1 c.from.ensures).1, (widened f2 c.from-2.ensures).1, (widened f3 c.from-3.ensures).1)
 
 pub returns : goal.returns
 unfolding clear_of
@@ -19,13 +26,13 @@ returns c =
     let f3 : SFits w16 c.args.station.c3 = record { sfits = omega arith } in
     let f4 : SFits w16 c.args.station.c4 = record { sfits = omega arith } in
     let f5 : SFits w16 c.args.station.c5 = record { sfits = omega arith } in
-    let e1 = widened f1 c.wide.ensures in
-    let e2 = widened f2 c.wide-2.ensures in
-    let e3 = widened f3 c.wide-3.ensures in
-    let e4 = widened f4 c.wide-4.ensures in
-    let e5 = widened f5 c.wide-5.ensures in
-    let e6 = given_back c.wide_unsigned.ensures tt in
-    let m = given_back c.wide_unsigned-2.ensures tt in
+    let e1 = (widened f1 c.from.ensures).0 in
+    let e2 = (widened f2 c.from-2.ensures).0 in
+    let e3 = (widened f3 c.from-3.ensures).0 in
+    let e4 = (widened f4 c.from-4.ensures).0 in
+    let e5 = (widened f5 c.from-5.ensures).0 in
+    let e6 = unsigned (omega arith) c.from-6.ensures in
+    let m = unsigned (omega arith) c.from-7.ensures in
     let sum = given_back c.clear_sum-sum.ensures tt in
     let day = returned c.clear_day.ensures tt in
     (day.0 ∙ (λ i. sheet.Q (m i) (sum i)) ∙ (λ i. sheet.Q (pos c.args.station.minimum) (sheet.clear_sum (e1 i) (e2 i) (e3 i) (e4 i) (e5 i) (e6 i))), day.1)

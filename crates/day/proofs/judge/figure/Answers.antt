@@ -18,6 +18,7 @@ use Rattle.day.specs.declared.Earlier.{Earlier}
 use Rattle.day.specs.declared.Refusal.{Refusal}
 use Rattle.day.specs.declared.Refusal.TheVariants.{StationField, BadDate, OutOfRange, AboveClear}
 use Rattle.day.proofs.Passed.{minimum_in, elevation_high, limit_in, day_low, day_high, one_passed, two_passed, three_passed, readings_in, entries_in}
+use Rattle.day.proofs.Tests.{unsigned}
 use Rattle.day.proofs.judge.figure.Goals as goal
 
 module _ (st : Station) (day : Day) (earlier : Earlier) (answered : Answered st day earlier) where
@@ -81,7 +82,7 @@ figure-requires c =
         range = keep c.clear_of-q.ensures.1 tt;
         below = (λ i. sheet.above_twice_clear (radiation i) (q i)) ∙ not_above_twice c.args.station c.args.day c.args.earlier c.requires;
       },
-      subst (InRange quantities.wind_limit) (sym (given_back c.wide_unsigned-limit.ensures tt))
+      subst (InRange quantities.wind_limit) (sym (unsigned (omega arith) c.from-limit.ensures))
           (limit_in c.args.station c.args.day c.args.earlier (none StationField)),
     )
 
@@ -94,7 +95,7 @@ overflow_cast-result c = (is_non_neg (figure_in c), omega (arith, nat_abs_in (fi
 pub returns : goal.returns
 unfolding figure_of entries_of
 returns c =
-    let limit = given_back c.wide_unsigned-limit.ensures tt in
+    let limit = unsigned (omega arith) c.from-limit.ensures in
     let q = given_back c.clear_of-q.ensures tt in
     ap nat_abs
     (given_back c.figure.ensures tt
