@@ -12,16 +12,11 @@ pub const LAST_YEAR: u16 = 2099;
 pub fn year_length(year: u16) -> u16
     ensures { result ≡ year_length year }
 {
-    if year % 4 != 0 {
-        return 365;
+    if year % 4 == 0 && (year % 100 != 0 || year % 400 == 0) {
+        366
+    } else {
+        365
     }
-    if year % 100 != 0 {
-        return 366;
-    }
-    if year % 400 != 0 {
-        return 365;
-    }
-    366
 }
 
 // Whether the calendar has day d of the year.
@@ -29,14 +24,5 @@ pub fn year_length(year: u16) -> u16
 pub fn is_date(year: u16, d: u16) -> bool
     ensures { result ≡ is_date year d }
 {
-    if year < FIRST_YEAR {
-        return false;
-    }
-    if LAST_YEAR < year {
-        return false;
-    }
-    if d < 1 {
-        return false;
-    }
-    d <= year_length(year)
+    FIRST_YEAR <= year && year <= LAST_YEAR && 1 <= d && d <= year_length(year)
 }

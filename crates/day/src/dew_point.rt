@@ -29,9 +29,10 @@ fn dew_point(day: Day) -> i16
 pub fn as_judged(day: Day) -> Day
     ensures { result ≡ as_judged day }
 {
-    let mut x = day;
-    x.dewpoint = dew_point(day);
-    x
+    Day {
+        dewpoint: dew_point(day),
+        ..day
+    }
 }
 
 // The figure of an answered day, with its mark if it has one.

@@ -1,4 +1,5 @@
-// What the step sheet is worked from, of a station, a day and the earlier means.
+// What the step sheet is worked from, of a station, a day and the earlier means. What a line asks of a date or a field is asked by the function and
+// not kept in a type: a `Day` and a `Station` are any that a record can hold, and `standing` tests them in document 01's order.
 ghost use Rattle.std.specs.Prelude.{false, ◌≡◌, ◌≤◌, pos};
 ghost use Rattle.numbers.specs.Ranges.{InRange, from◌to◌};
 ghost use Rattle.tables.specs.Values.{pressure_at};
