@@ -6,8 +6,9 @@ ghost use Rattle.sheet.specs.StepSheet as sheet;
 
 // The sum of the station's clear-day constants at the day of the year, d.
 pub fn clear_sum(c1: i64, c2: i64, c3: i64, c4: i64, c5: i64, d: i64) -> i64
-    requires in_range { InRange quantities.signed_word c1 × InRange quantities.signed_word c2 × InRange quantities.signed_word c3 }
-    requires in_range_2 { InRange quantities.signed_word c4 × InRange quantities.signed_word c5 × InRange quantities.day_of_year d }
+    requires high_constants_in_range { InRange quantities.signed_word c1 × InRange quantities.signed_word c2 × InRange quantities.signed_word c3 }
+    requires low_constants_in_range { InRange quantities.signed_word c4 × InRange quantities.signed_word c5 }
+    requires day_in_range { InRange quantities.day_of_year d }
     ensures { (result ≡ sheet.clear_sum c1 c2 c3 c4 c5 d) × InRange quantities.clear_sum result }
 {
     1_000_000_000 * c1

@@ -46,7 +46,7 @@ pub fn heat(x: Readings, t: Entries, earlier: Earlier, q: i64) -> i64
     requires { ReadingsInRange x × EntriesInRange t × EarlierInRange earlier × ClearDayAccepted x q }
     ensures { (result ≡ sheet.heat x t earlier q) × InRange quantities.heat result }
 {
-    let rb = crate::radiation::outgoing(x.maximum, x.minimum, x.dewpoint, t.a1, x.radiation, q);
+    let rb = crate::radiation::outgoing(x, t.a1, q);
     let rn = crate::radiation::net_radiation(t.albedo, x.radiation, rb);
     let soil = crate::radiation::soil_heat(x.mean, earlier.k, earlier.z);
     crate::radiation::available(rn, soil)

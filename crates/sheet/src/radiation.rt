@@ -1,9 +1,12 @@
 // The heat that is there to use: the radiation that comes in, what goes out, and what the soil takes.
 ghost use Rattle.std.specs.Prelude.{false, ◌≡◌};
 ghost use Rattle.numbers.specs.Ranges.{InRange};
+ghost use Rattle.sheet.specs.Accepted.{ClearDayAccepted};
 ghost use Rattle.sheet.specs.Parts as parts;
 ghost use Rattle.sheet.specs.Quantities as quantities;
 ghost use Rattle.sheet.specs.StepSheet as sheet;
+
+use crate::Readings;
 
 // ρ, of the radiation and the clear-day radiation.
 pub fn ratio(s: i64, q: i64) -> i64
@@ -90,16 +93,16 @@ pub fn available(rn: i64, soil: i64) -> i64
     rn - soil
 }
 
-// Rb, of the readings: the maximum, the minimum, the dew point, a1, the radiation and the clear-day radiation.
-pub fn outgoing(maximum: i64, minimum: i64, dewpoint: i64, a1: i64, s: i64, q: i64) -> i64
-    requires in_range { InRange quantities.temperature maximum × InRange quantities.temperature minimum × InRange quantities.temperature dewpoint }
-    requires in_range_2 { InRange quantities.a1 a1 × InRange quantities.radiation s × InRange quantities.clear_day q }
-    requires q_value { sheet.above_twice_clear s q ≡ false }
-    ensures { (result ≡ parts.outgoing maximum minimum dewpoint a1 s q) × InRange quantities.back_radiation result }
+// Rb, of the readings, a1 and the clear-day radiation.
+pub fn outgoing(x: Readings, a1: i64, q: i64) -> i64
+    requires temperatures_in_range { InRange quantities.temperature x.maximum × InRange quantities.temperature x.minimum × InRange quantities.temperature x.dewpoint }
+    requires a1_in_range { InRange quantities.a1 a1 }
+    requires radiation_accepted { InRange quantities.radiation x.radiation × ClearDayAccepted x q }
+    ensures { (result ≡ parts.outgoing x.maximum x.minimum x.dewpoint a1 x.radiation q) × InRange quantities.back_radiation result }
 {
-    let r = root(dewpoint);
+    let r = root(x.dewpoint);
     let share = emittance(a1, r);
-    let b = emission(maximum, minimum);
-    let k = cloud_factor(s, q);
+    let b = emission(x.maximum, x.minimum);
+    let k = cloud_factor(x.radiation, q);
     back_radiation(share, b, k)
 }

@@ -43,7 +43,7 @@ module _ (c : goal.Start) where
   zs = c.args.c1 ∷ c.args.c2 ∷ c.args.c3 ∷ c.args.c4 ∷ c.args.c5 ∷ c.args.d ∷ []
 
   given : Given rs zs
-  given = c.requires.in_range.0 and c.requires.in_range.1 and c.requires.in_range.2 and c.requires.in_range_2.0 and c.requires.in_range_2.1 and c.requires.in_range_2.2 and none
+  given = c.requires.high_constants_in_range.0 and c.requires.high_constants_in_range.1 and c.requires.high_constants_in_range.2 and c.requires.low_constants_in_range.0 and c.requires.low_constants_in_range.1 and c.requires.day_in_range and none
 
   fit : (x : MachineExpression) → T (safe x rs) → SFits w64 (result x zs)
   fit = fits given
