@@ -2,43 +2,27 @@
 // that takes no more, a line on standard error.
 #![tactic(auto)]
 
+ghost use Rattle.std.specs.Prelude.{IfOk};
 ghost use Rattle.io.specs.Counts.{IsPrefixLen};
 
 use std::env::{Env, FillError};
+use std::io;
 use std::io::{Eprint, Print, Read};
 
-// How many bytes were read, and whether a read failed behind them.
-#[derive(Clone, Copy)]
-struct Input {
-    size: usize,
-    failed: bool,
-}
-
-// Reads standard input to its end, or as far as there is room. It goes by what each read answers, and asks none again: a connection that was reset
-// fails once, and from then on looks as if it had ended.
-fn read_input(rt: HostRuntime, log: &mut [u8]) -> Input
-    ensures { IsPrefixLen result.size log.new }
+// Reads standard input to its end, or as far as there is room, and says how many bytes it read. It goes by what each read answers, and asks none again
+// as `read_exact` does: a connection that was reset fails once, and from then on looks as if it had ended.
+fn read_input(rt: HostRuntime, log: &mut [u8]) -> io::Result<usize>
+    ensures { IfOk result (λ size. IsPrefixLen size log.new) }
 {
     let mut stdin = rt.stdin();
     let mut size = 0;
     while size < log.len() {
-        match stdin.read(&mut log[size..]) {
-            Ok(0) => {
-                return Input {
-                    size,
-                    failed: false,
-                };
-            }
-            Ok(more) => size += more,
-            Err(_) => {
-                return Input { size, failed: true };
-            }
+        match stdin.read(&mut log[size..])? {
+            0 => break,
+            more => size += more,
         }
     }
-    Input {
-        size,
-        failed: false,
-    }
+    Ok(size)
 }
 
 // Prints the report of a log.
@@ -58,11 +42,9 @@ fn main(rt: HostRuntime) {
     }
     // The longest log, and one byte more, so that a longer one is seen to be longer.
     let mut log = [0u8; 65_537];
-    let input = read_input(rt, &mut log);
-    if input.failed {
+    let Ok(size) = read_input(rt, &mut log) else {
         let _ = rt.eprintln("report: standard input cannot be read to its end");
         return;
-    }
-    let size = input.size;
+    };
     print(rt, &log[..size]);
 }
