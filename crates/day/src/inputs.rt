@@ -10,7 +10,7 @@ ghost use Rattle.day.specs.Judgement.{readings_of, entries_at, clear_of, earlier
 ghost use Rattle.day.specs.Parts.{count_of, tenths_of};
 
 use crate::{Day, Station};
-use sheet::{Entries, Readings};
+use sheet::{Constants, Entries, Readings};
 use tables::DayTable;
 
 // The readings as the sheet takes them.
@@ -48,14 +48,14 @@ pub fn clear_of(station: Station, day: Day) -> i64
     requires { (1 ≤ day.d) × (day.d ≤ 366) × (50 ≤ station.minimum) × (station.minimum ≤ 200) }
     ensures { (result ≡ clear_of station day) × InRange quantities.clear_day result }
 {
-    let sum = sheet::clear::clear_sum(
-        i64::from(station.c1),
-        i64::from(station.c2),
-        i64::from(station.c3),
-        i64::from(station.c4),
-        i64::from(station.c5),
-        i64::from(day.d),
-    );
+    let constants = Constants {
+        c1: i64::from(station.c1),
+        c2: i64::from(station.c2),
+        c3: i64::from(station.c3),
+        c4: i64::from(station.c4),
+        c5: i64::from(station.c5),
+    };
+    let sum = sheet::clear::clear_sum(constants, i64::from(day.d));
     sheet::clear::clear_day(i64::from(station.minimum), sum)
 }
 

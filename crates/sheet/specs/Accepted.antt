@@ -5,6 +5,7 @@ use Rattle.numbers.specs.Ranges.{InRange}
 use Rattle.sheet.specs.Quantities as quantities
 use Rattle.sheet.specs.StepSheet.{above_twice_clear}
 use Rattle.sheet.specs.declared.Readings.{Readings}
+use Rattle.sheet.specs.declared.Constants.{Constants}
 use Rattle.sheet.specs.declared.Entries.{Entries}
 use Rattle.sheet.specs.declared.Earlier.{Earlier}
 
@@ -15,6 +16,13 @@ pub record ReadingsInRange (x : Readings) : Type 0 where
   pub dewpoint : InRange quantities.temperature x.dewpoint
   pub radiation : InRange quantities.radiation x.radiation
   pub wind : InRange quantities.wind x.wind
+
+pub record ConstantsInRange (c : Constants) : Type 0 where
+  pub c1 : InRange quantities.signed_word c.c1
+  pub c2 : InRange quantities.signed_word c.c2
+  pub c3 : InRange quantities.signed_word c.c3
+  pub c4 : InRange quantities.signed_word c.c4
+  pub c5 : InRange quantities.signed_word c.c5
 
 pub record EntriesInRange (t : Entries) : Type 0 where
   pub albedo : InRange quantities.albedo t.albedo

@@ -1,16 +1,18 @@
 // The clear-day radiation Q of a station, and whether a reading is above twice of it.
 ghost use Rattle.std.specs.Prelude.{◌≡◌};
 ghost use Rattle.numbers.specs.Ranges.{InRange};
+ghost use Rattle.sheet.specs.Accepted.{ConstantsInRange};
 ghost use Rattle.sheet.specs.Quantities as quantities;
 ghost use Rattle.sheet.specs.StepSheet as sheet;
 
+use crate::Constants;
+
 // The sum of the station's clear-day constants at the day of the year, d.
-pub fn clear_sum(c1: i64, c2: i64, c3: i64, c4: i64, c5: i64, d: i64) -> i64
-    requires high_constants_in_range { InRange quantities.signed_word c1 × InRange quantities.signed_word c2 × InRange quantities.signed_word c3 }
-    requires low_constants_in_range { InRange quantities.signed_word c4 × InRange quantities.signed_word c5 }
-    requires day_in_range { InRange quantities.day_of_year d }
-    ensures { (result ≡ sheet.clear_sum c1 c2 c3 c4 c5 d) × InRange quantities.clear_sum result }
+pub fn clear_sum(constants: Constants, d: i64) -> i64
+    requires { ConstantsInRange constants × InRange quantities.day_of_year d }
+    ensures { (result ≡ sheet.clear_sum constants.c1 constants.c2 constants.c3 constants.c4 constants.c5 d) × InRange quantities.clear_sum result }
 {
+    let Constants { c1, c2, c3, c4, c5 } = constants;
     1_000_000_000 * c1
         + 1_000_000 * c2 * d
         + 100_000 * c3 * d * d

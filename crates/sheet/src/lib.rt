@@ -1,5 +1,6 @@
 // The step sheet in whole numbers: what one station day's readings, table entries and earlier means come to. Each function is a line of the
-// document's sheet, in i64; its contract is that line and the range of its result.
+// document's sheet, in i64; its contract is that line and the range of its result. The lines in specs/StepSheet.antt are functions of plain whole
+// numbers, and each of their thirty quantities has a range of its own: so each range is a clause (`InRange`), and not the invariant of a type.
 #![tactic(auto)]
 
 pub mod clear;
@@ -9,7 +10,8 @@ pub mod temperature;
 pub mod weights;
 pub mod wind;
 
-// A day's readings, in tenths of a degree Fahrenheit, of a cal/cm²/d and of a mile.
+// A day's readings, in tenths of a degree Fahrenheit, of a cal/cm²/d and of a mile. `readings_of` in day/specs/Judgement.antt makes them of a refused
+// day too, so their ranges are no invariant of them.
 #[derive(Clone, Copy)]
 pub struct Readings {
     pub maximum: i64,
@@ -18,6 +20,16 @@ pub struct Readings {
     pub dewpoint: i64,
     pub radiation: i64,
     pub wind: i64,
+}
+
+// A station's constants of the clear-day radiation, in the units of its record.
+#[derive(Clone, Copy)]
+pub struct Constants {
+    pub c1: i64,
+    pub c2: i64,
+    pub c3: i64,
+    pub c4: i64,
+    pub c5: i64,
 }
 
 // The entries of the constant tables at the day and at the station's elevation.

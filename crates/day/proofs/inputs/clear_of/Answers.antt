@@ -1,5 +1,6 @@
 -- `day::inputs::clear_of` meets its contract. Assumes nothing.
 use native.Mathlib.Omega.{arith}
+use borrow.Author.Rules.{rules}
 use lib.IntN.{pos}
 use mathlib.Core.Path.{◌∙◌}
 use mir.Syntax.{w16}
@@ -10,17 +11,27 @@ use Rattle.day.specs.Judgement.{clear_of}
 use Rattle.day.proofs.Tests.{widened, unsigned}
 use Rattle.day.proofs.inputs.clear_of.Goals as goal
 
-pub clear_sum-sum-requires-clause-in_range : goal.clear_sum-sum-requires-clause-in_range
-clear_sum-sum-requires-clause-in_range c =
+-- each constant is a number of sixteen bits
+pub clear_sum-sum-requires : goal.clear_sum-sum-requires
+clear_sum-sum-requires c =
     let f1 : SFits w16 c.args.station.c1 = record { sfits = omega arith } in
     let f2 : SFits w16 c.args.station.c2 = record { sfits = omega arith } in
     let f3 : SFits w16 c.args.station.c3 = record { sfits = omega arith } in
-    ((widened f1 c.from.ensures).1, (widened f2 c.from-2.ensures).1, (widened f3 c.from-3.ensures).1)
+    let f4 : SFits w16 c.args.station.c4 = record { sfits = omega arith } in
+    let f5 : SFits w16 c.args.station.c5 = record { sfits = omega arith } in (
+      record {
+        c1 = (widened f1 c.from.ensures).1;
+        c2 = (widened f2 c.from-2.ensures).1;
+        c3 = (widened f3 c.from-3.ensures).1;
+        c4 = (widened f4 c.from-4.ensures).1;
+        c5 = (widened f5 c.from-5.ensures).1;
+      },
+      search rules,
+    )
 
 pub returns : goal.returns
 unfolding clear_of
 returns c =
-    -- each constant is a number of sixteen bits
     let f1 : SFits w16 c.args.station.c1 = record { sfits = omega arith } in
     let f2 : SFits w16 c.args.station.c2 = record { sfits = omega arith } in
     let f3 : SFits w16 c.args.station.c3 = record { sfits = omega arith } in

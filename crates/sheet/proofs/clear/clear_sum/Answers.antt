@@ -4,10 +4,12 @@ use lib.Dec.{T}
 use lib.IntN.{ℤ}
 use mir.Syntax.{w64}
 use mir.Val.{SFits}
-use Rattle.numbers.specs.Ranges.{Range}
+use Rattle.numbers.specs.Ranges.{Range, InRange}
 use Rattle.numbers.proofs.Reflection.{MachineExpression, arg, lit, ◌+ᵐ◌, ◌*ᵐ◌, Given, none, ◌and◌, safe, result, fits, equal_in}
 use Rattle.sheet.specs.Quantities as quantities
+use Rattle.sheet.specs.Accepted.{ConstantsInRange}
 use Rattle.sheet.specs.StepSheet.{clear_sum}
+use Rattle.sheet.specs.declared.Constants.{Constants}
 use Rattle.sheet.proofs.clear.clear_sum.Goals as goal
 
 abbrev d : MachineExpression
@@ -38,70 +40,70 @@ rs =
     ∷ quantities.day_of_year
     ∷ []
 
-module _ (c : goal.Start) where
+module _ {k : Constants} {x : ℤ} (h : ConstantsInRange k × InRange quantities.day_of_year x) where
   abbrev zs : List ℤ
-  zs = c.args.c1 ∷ c.args.c2 ∷ c.args.c3 ∷ c.args.c4 ∷ c.args.c5 ∷ c.args.d ∷ []
+  zs = k.c1 ∷ k.c2 ∷ k.c3 ∷ k.c4 ∷ k.c5 ∷ x ∷ []
 
   given : Given rs zs
-  given = c.requires.high_constants_in_range.0 and c.requires.high_constants_in_range.1 and c.requires.high_constants_in_range.2 and c.requires.low_constants_in_range.0 and c.requires.low_constants_in_range.1 and c.requires.day_in_range and none
+  given = h.0.c1 and h.0.c2 and h.0.c3 and h.0.c4 and h.0.c5 and h.1 and none
 
-  fit : (x : MachineExpression) → T (safe x rs) → SFits w64 (result x zs)
+  fit : (e : MachineExpression) → T (safe e rs) → SFits w64 (result e zs)
   fit = fits given
 
 pub returns : goal.returns
 unfolding clear_sum
-returns c = equal_in (given c) (first +ᵐ second +ᵐ third +ᵐ fourth +ᵐ fifth) quantities.clear_sum tt
+returns c = equal_in (given c.requires) (first +ᵐ second +ᵐ third +ᵐ fourth +ᵐ fifth) quantities.clear_sum tt
 
 pub overflow_mul-result : goal.overflow_mul-result
-overflow_mul-result c = fit c first tt
+overflow_mul-result c = fit c.requires first tt
 
 pub overflow_mul-result-2 : goal.overflow_mul-result-2
-overflow_mul-result-2 c = fit c (lit 1_000_000 *ᵐ arg 1) tt
+overflow_mul-result-2 c = fit c.requires (lit 1_000_000 *ᵐ arg 1) tt
 
 pub overflow_mul-result-3 : goal.overflow_mul-result-3
-overflow_mul-result-3 c = fit c second tt
+overflow_mul-result-3 c = fit c.requires second tt
 
 pub overflow_add-result : goal.overflow_add-result
-overflow_add-result c = fit c (first +ᵐ second) tt
+overflow_add-result c = fit c.requires (first +ᵐ second) tt
 
 pub overflow_mul-result-4 : goal.overflow_mul-result-4
-overflow_mul-result-4 c = fit c (lit 100_000 *ᵐ arg 2) tt
+overflow_mul-result-4 c = fit c.requires (lit 100_000 *ᵐ arg 2) tt
 
 pub overflow_mul-result-5 : goal.overflow_mul-result-5
-overflow_mul-result-5 c = fit c (lit 100_000 *ᵐ arg 2 *ᵐ d) tt
+overflow_mul-result-5 c = fit c.requires (lit 100_000 *ᵐ arg 2 *ᵐ d) tt
 
 pub overflow_mul-result-6 : goal.overflow_mul-result-6
-overflow_mul-result-6 c = fit c third tt
+overflow_mul-result-6 c = fit c.requires third tt
 
 pub overflow_add-result-2 : goal.overflow_add-result-2
-overflow_add-result-2 c = fit c (first +ᵐ second +ᵐ third) tt
+overflow_add-result-2 c = fit c.requires (first +ᵐ second +ᵐ third) tt
 
 pub overflow_mul-result-7 : goal.overflow_mul-result-7
-overflow_mul-result-7 c = fit c (lit 1_000 *ᵐ arg 3) tt
+overflow_mul-result-7 c = fit c.requires (lit 1_000 *ᵐ arg 3) tt
 
 pub overflow_mul-result-8 : goal.overflow_mul-result-8
-overflow_mul-result-8 c = fit c (lit 1_000 *ᵐ arg 3 *ᵐ d) tt
+overflow_mul-result-8 c = fit c.requires (lit 1_000 *ᵐ arg 3 *ᵐ d) tt
 
 pub overflow_mul-result-9 : goal.overflow_mul-result-9
-overflow_mul-result-9 c = fit c (lit 1_000 *ᵐ arg 3 *ᵐ d *ᵐ d) tt
+overflow_mul-result-9 c = fit c.requires (lit 1_000 *ᵐ arg 3 *ᵐ d *ᵐ d) tt
 
 pub overflow_mul-result-10 : goal.overflow_mul-result-10
-overflow_mul-result-10 c = fit c fourth tt
+overflow_mul-result-10 c = fit c.requires fourth tt
 
 pub overflow_add-result-3 : goal.overflow_add-result-3
-overflow_add-result-3 c = fit c (first +ᵐ second +ᵐ third +ᵐ fourth) tt
+overflow_add-result-3 c = fit c.requires (first +ᵐ second +ᵐ third +ᵐ fourth) tt
 
 pub overflow_mul-result-11 : goal.overflow_mul-result-11
-overflow_mul-result-11 c = fit c (arg 4 *ᵐ d) tt
+overflow_mul-result-11 c = fit c.requires (arg 4 *ᵐ d) tt
 
 pub overflow_mul-result-12 : goal.overflow_mul-result-12
-overflow_mul-result-12 c = fit c (arg 4 *ᵐ d *ᵐ d) tt
+overflow_mul-result-12 c = fit c.requires (arg 4 *ᵐ d *ᵐ d) tt
 
 pub overflow_mul-result-13 : goal.overflow_mul-result-13
-overflow_mul-result-13 c = fit c (arg 4 *ᵐ d *ᵐ d *ᵐ d) tt
+overflow_mul-result-13 c = fit c.requires (arg 4 *ᵐ d *ᵐ d *ᵐ d) tt
 
 pub overflow_mul-result-14 : goal.overflow_mul-result-14
-overflow_mul-result-14 c = fit c fifth tt
+overflow_mul-result-14 c = fit c.requires fifth tt
 
 pub overflow_add-result-4 : goal.overflow_add-result-4
-overflow_add-result-4 c = fit c (first +ᵐ second +ᵐ third +ᵐ fourth +ᵐ fifth) tt
+overflow_add-result-4 c = fit c.requires (first +ᵐ second +ᵐ third +ᵐ fourth +ᵐ fifth) tt
