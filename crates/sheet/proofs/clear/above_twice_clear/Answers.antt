@@ -2,7 +2,7 @@
 use mathlib.Core.Path.{ap₂}
 use mathlib.Core.List.{[], ◌∷◌}
 use lib.Signed.{lt_z}
-use Rattle.numbers.proofs.Reflection.{MachineExpression, arg, lit, ◌*ᵐ◌, Given, none, ◌and◌, fits, equal}
+use Rattle.numbers.proofs.Reflection.{MachineExpression, arg, lit, ◌*ᵐ◌, Given, none, ◌and◌, equal}
 use Rattle.sheet.specs.Quantities as quantities
 use Rattle.sheet.specs.StepSheet.{above_twice_clear}
 use Rattle.sheet.proofs.clear.above_twice_clear.Goals as goal
@@ -19,9 +19,3 @@ given c = c.requires.0 and c.requires.1 and none
 pub returns : goal.returns
 unfolding above_twice_clear
 returns c = ap₂ lt_z (equal (given c) twice tt) (equal (given c) reading tt)
-
-pub overflow_mul-result : goal.overflow_mul-result
-overflow_mul-result c = fits (given c) reading tt
-
-pub overflow_mul-result-2 : goal.overflow_mul-result-2
-overflow_mul-result-2 c = fits (given c) twice tt

@@ -5,20 +5,21 @@ use lib.IntN.{ℤ, pos, ◌*ℤ◌}
 use lib.Signed.{lt_z}
 use mir.Facts.{to_z-of_z}
 use Rattle.numbers.specs.Ranges.{Range, from◌to◌, InRange}
-use Rattle.numbers.proofs.Reflection.{MachineExpression, arg, lit, ◌*ᵐ◌, Given, none, ◌and◌, machine, fits, equal_in}
+use Rattle.numbers.proofs.Reflection.{MachineExpression, arg, lit, ◌*ᵐ◌, Given, none, ◌and◌, machine, equal_in}
 use Rattle.sheet.specs.Quantities as quantities
 use Rattle.sheet.specs.StepSheet.{Q}
 use Rattle.sheet.proofs.Choices.{taken, left, at_least_in}
 use Rattle.sheet.proofs.Values.{keep}
 use Rattle.sheet.proofs.clear.clear_day.Goals as goal
+use Rattle.sheet.proofs.clear.clear_day.Goals.{Start}
 
 abbrev least : MachineExpression
 least = lit 1_000_000_000 *ᵐ arg 0
 
-given : (c : goal.Start) → Given (quantities.clear_minimum ∷ []) (c.args.minimum ∷ [])
+given : (c : Start) → Given (quantities.clear_minimum ∷ []) (c.args.minimum ∷ [])
 given c = c.requires.0 and none
 
-module _ (c : goal.Start) where
+module _ (c : Start) where
   abbrev minimum : ℤ
   minimum = pos 1_000_000_000 *ℤ c.args.minimum
 
@@ -44,6 +45,3 @@ returns c =
       p ∙ left lt_z p (least_is b).0 (minimum b) b.args.sum c.if-sum-least.false,
       at_least_in (least_is b).1 (keep b.requires.1 tt) c.if-sum-least.false,
     )
-
-pub overflow_mul-least : goal.overflow_mul-least
-overflow_mul-least c = fits (given c) least tt

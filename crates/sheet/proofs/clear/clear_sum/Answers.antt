@@ -54,20 +54,11 @@ pub returns : goal.returns
 unfolding clear_sum
 returns c = equal_in (given c.requires) (first +ᵐ second +ᵐ third +ᵐ fourth +ᵐ fifth) quantities.clear_sum tt
 
-pub overflow_mul-result : goal.overflow_mul-result
-overflow_mul-result c = fit c.requires first tt
-
-pub overflow_mul-result-2 : goal.overflow_mul-result-2
-overflow_mul-result-2 c = fit c.requires (lit 1_000_000 *ᵐ arg 1) tt
-
 pub overflow_mul-result-3 : goal.overflow_mul-result-3
 overflow_mul-result-3 c = fit c.requires second tt
 
 pub overflow_add-result : goal.overflow_add-result
 overflow_add-result c = fit c.requires (first +ᵐ second) tt
-
-pub overflow_mul-result-4 : goal.overflow_mul-result-4
-overflow_mul-result-4 c = fit c.requires (lit 100_000 *ᵐ arg 2) tt
 
 pub overflow_mul-result-5 : goal.overflow_mul-result-5
 overflow_mul-result-5 c = fit c.requires (lit 100_000 *ᵐ arg 2 *ᵐ d) tt
@@ -77,9 +68,6 @@ overflow_mul-result-6 c = fit c.requires third tt
 
 pub overflow_add-result-2 : goal.overflow_add-result-2
 overflow_add-result-2 c = fit c.requires (first +ᵐ second +ᵐ third) tt
-
-pub overflow_mul-result-7 : goal.overflow_mul-result-7
-overflow_mul-result-7 c = fit c.requires (lit 1_000 *ᵐ arg 3) tt
 
 pub overflow_mul-result-8 : goal.overflow_mul-result-8
 overflow_mul-result-8 c = fit c.requires (lit 1_000 *ᵐ arg 3 *ᵐ d) tt
@@ -92,9 +80,6 @@ overflow_mul-result-10 c = fit c.requires fourth tt
 
 pub overflow_add-result-3 : goal.overflow_add-result-3
 overflow_add-result-3 c = fit c.requires (first +ᵐ second +ᵐ third +ᵐ fourth) tt
-
-pub overflow_mul-result-11 : goal.overflow_mul-result-11
-overflow_mul-result-11 c = fit c.requires (arg 4 *ᵐ d) tt
 
 pub overflow_mul-result-12 : goal.overflow_mul-result-12
 overflow_mul-result-12 c = fit c.requires (arg 4 *ᵐ d *ᵐ d) tt

@@ -1,6 +1,5 @@
 -- `sheet::figure::amount` meets its contract: each step, as an expression, is safe in the ranges required. Assumes nothing.
 use mathlib.Core.List.{[], ◌∷◌}
-use borrow.Author.Rules.{rules}
 use Rattle.numbers.proofs.Reflection.{MachineExpression, arg, lit, ◌+ᵐ◌, ◌*ᵐ◌, ◌÷0ᵐ◌, Given, none, ◌and◌, fits, called}
 use Rattle.sheet.specs.Quantities as quantities
 use Rattle.sheet.specs.StepSheet.{A}
@@ -19,14 +18,5 @@ pub returns : goal.returns
 unfolding A
 returns c = returned (called (given c.before) (sum ÷0ᵐ lit 1_000_000_000) quantities.amount c.toward_zero.ensures tt) tt
 
-pub overflow_mul-w1 : goal.overflow_mul-w1
-overflow_mul-w1 c = fits (given c) (arg 0 *ᵐ arg 2) tt
-
-pub overflow_mul-w2 : goal.overflow_mul-w2
-overflow_mul-w2 c = fits (given c) (arg 1 *ᵐ arg 3) tt
-
 pub overflow_add-w1 : goal.overflow_add-w1
 overflow_add-w1 c = fits (given c) sum tt
-
-pub toward_zero-requires : goal.toward_zero-requires
-toward_zero-requires c = search rules

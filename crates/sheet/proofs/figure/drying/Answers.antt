@@ -27,24 +27,3 @@ returns c =
           (given_back run.counted_wind-w.ensures tt ∙ ap₂ counted_wind (read s.requires.2 tt) (read s.requires.0.wind tt))),
       search rules,
     )
-
-pub vapour_pressure-ea-requires : goal.vapour_pressure-ea-requires
-vapour_pressure-ea-requires c = search rules
-
-pub vapour_pressure-e_maximum-requires : goal.vapour_pressure-e_maximum-requires
-vapour_pressure-e_maximum-requires c = search rules
-
-pub vapour_pressure-e_minimum-requires : goal.vapour_pressure-e_minimum-requires
-vapour_pressure-e_minimum-requires c = search rules
-
-pub deficit-v-requires : goal.deficit-v-requires
-deficit-v-requires c = search rules
-
-pub counted_wind-w-requires : goal.counted_wind-w-requires
-counted_wind-w-requires c = search rules
-
-pub wind_factor-wf-requires : goal.wind_factor-wf-requires
-wind_factor-wf-requires c = search rules
-
-pub drying-requires : goal.drying-requires
-drying-requires c = search rules

@@ -17,12 +17,3 @@ returns c =
     let h = given_back warm.heat-h.ensures tt ∙ ap (heat _ _ _) (read s.requires.3.range tt) in
     let t = given_back dry.drying-dry.ensures tt ∙ ap (drying _ _) (read s.requires.4 tt) in
     (given_back c.weighed.ensures tt ∙ (λ i. weighed (m i) (p i) (h i) (t i)), search rules)
-
-pub drying-dry-requires : goal.drying-dry-requires
-drying-dry-requires c = search rules
-
-pub heat-h-requires : goal.heat-h-requires
-heat-h-requires c = search rules
-
-pub weighed-requires : goal.weighed-requires
-weighed-requires c = search rules

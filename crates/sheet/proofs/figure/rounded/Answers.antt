@@ -7,7 +7,7 @@ use lib.IntN.{ℤ, pos}
 use lib.Signed.{le_z}
 use mir.Facts.{to_z-of_z}
 use Rattle.numbers.specs.Ranges.{from◌to◌}
-use Rattle.numbers.proofs.Reflection.{MachineExpression, arg, lit, ◌+ᵐ◌, ◌*ᵐ◌, ◌÷↓ᵐ◌, Given, none, ◌and◌, fits, equal_in, meaning, quotient_asks, quotient_gives}
+use Rattle.numbers.proofs.Reflection.{MachineExpression, arg, lit, ◌+ᵐ◌, ◌*ᵐ◌, ◌÷↓ᵐ◌, Given, none, ◌and◌, equal_in, meaning, quotient_asks, quotient_gives}
 use Rattle.sheet.specs.Quantities as quantities
 use Rattle.sheet.specs.StepSheet.{Figure}
 use Rattle.sheet.proofs.Choices.{taken, left, positive_in}
@@ -38,21 +38,6 @@ returns c =
     let h = equal_in (given e) nearest quantities.figure tt in
     rw (quotient_gives (given e) above (lit 2 *ᵐ whole) c.quotient.ensures tt)
     (h.0 ∙ left le_z (to_z-of_z c.ranges.a) refl (pos 0) (meaning nearest (c.args.a ∷ c.args.heat ∷ [])) e.if-a-le0.false, h.1)
-
-pub overflow_mul-whole : goal.overflow_mul-whole
-overflow_mul-whole c = fits (given c) whole tt
-
-pub overflow_mul-a : goal.overflow_mul-a
-overflow_mul-a c = fits (given c) (lit 23_622 *ᵐ arg 0) tt
-
-pub overflow_mul-a-2 : goal.overflow_mul-a-2
-overflow_mul-a-2 c = fits (given c) (lit 2 *ᵐ (lit 23_622 *ᵐ arg 0)) tt
-
-pub overflow_add-a : goal.overflow_add-a
-overflow_add-a c = fits (given c) above tt
-
-pub overflow_mul-whole-2 : goal.overflow_mul-whole-2
-overflow_mul-whole-2 c = fits (given c) (lit 2 *ᵐ whole) tt
 
 pub quotient-requires : goal.quotient-requires
 quotient-requires c = quotient_asks (given c) above (lit 2 *ᵐ whole) tt

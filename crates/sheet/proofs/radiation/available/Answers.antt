@@ -1,6 +1,6 @@
 -- `sheet::radiation::available` meets its contract. Assumes nothing.
 use mathlib.Core.List.{[], ◌∷◌}
-use Rattle.numbers.proofs.Reflection.{arg, ◌-ᵐ◌, Given, none, ◌and◌, fits, equal_in}
+use Rattle.numbers.proofs.Reflection.{arg, ◌-ᵐ◌, Given, none, ◌and◌, equal_in}
 use Rattle.sheet.specs.Quantities as quantities
 use Rattle.sheet.specs.StepSheet.{H}
 use Rattle.sheet.proofs.radiation.available.Goals as goal
@@ -11,6 +11,3 @@ given c = c.requires.0 and c.requires.1 and none
 pub returns : goal.returns
 unfolding H
 returns c = equal_in (given c) (arg 0 -ᵐ arg 1) quantities.heat tt
-
-pub overflow_sub-result : goal.overflow_sub-result
-overflow_sub-result c = fits (given c) (arg 0 -ᵐ arg 1) tt

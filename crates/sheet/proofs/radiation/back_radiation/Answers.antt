@@ -1,7 +1,6 @@
 -- `sheet::radiation::back_radiation` meets its contract: each call's result is one more argument. Assumes nothing.
 use mathlib.Core.Path.{◌≡◌}
 use mathlib.Core.List.{[], ◌∷◌}
-use borrow.Author.Rules.{rules}
 use lib.IntN.{pos, ◌*ℤ◌}
 use Rattle.numbers.specs.Whole.{◌÷0◌}
 use Rattle.numbers.specs.Ranges.{Range, minus◌to◌, InRange}
@@ -10,11 +9,12 @@ use Rattle.sheet.specs.Quantities as quantities
 use Rattle.sheet.specs.StepSheet.{Rb}
 use Rattle.sheet.proofs.Values.{called_of, returned}
 use Rattle.sheet.proofs.radiation.back_radiation.Goals as goal
+use Rattle.sheet.proofs.radiation.back_radiation.Goals.{Start}
 
 abbrev sent : Range
 sent = minus 360_000_000 to 216_000_000
 
-given : (c : goal.Start) →
+given : (c : Start) →
     Given (quantities.emittance ∷ quantities.emission ∷ quantities.cloud_factor ∷ []) (c.args.emittance ∷ c.args.b ∷ c.args.k ∷ [])
 given c = c.requires.0 and c.requires.1 and c.requires.2 and none
 
@@ -30,14 +30,5 @@ returns c =
     (called_of (given b.before) (sent_is b) (arg 0 *ᵐ arg 3 ÷0ᵐ lit 1_000_000_000) quantities.back_radiation c.toward_zero.ensures tt)
     tt
 
-pub overflow_mul-emittance : goal.overflow_mul-emittance
-overflow_mul-emittance c = fits (given c) (arg 0 *ᵐ arg 1) tt
-
-pub toward_zero-sent-requires : goal.toward_zero-sent-requires
-toward_zero-sent-requires c = search rules
-
 pub overflow_mul-sent : goal.overflow_mul-sent
 overflow_mul-sent c = fits ((sent_is c).1 and given c.before) (arg 0 *ᵐ arg 3) tt
-
-pub toward_zero-requires : goal.toward_zero-requires
-toward_zero-requires c = search rules

@@ -4,7 +4,6 @@ use mathlib.Core.Path.{◌≡◌, refl, ◌∙◌, ap₂}
 use mathlib.Core.Bool.{Bool, true, false, cond}
 use mathlib.Core.List.{List, [], ◌∷◌}
 use native.Mathlib.Omega.{arith}
-use borrow.Author.Rules.{rules}
 use lib.IntN.{ℤ, pos, ◌+ℤ◌, ◌-ℤ◌, ◌*ℤ◌}
 use lib.Signed.{lt_z}
 use mir.Facts.{to_z-of_z}
@@ -103,21 +102,6 @@ returns c =
           ∙ as_arithmetic s q,
       h.1,
     )
-
-pub ratio-rho-requires : goal.ratio-rho-requires
-ratio-rho-requires c = search rules
-
-pub overflow_mul-bright : goal.overflow_mul-bright
-overflow_mul-bright c = fits (choice_given c) reading tt
-
-pub overflow_mul-bright-2 : goal.overflow_mul-bright-2
-overflow_mul-bright-2 c = fits (choice_given c) border tt
-
-pub overflow_cast-bright : goal.overflow_cast-bright
-overflow_cast-bright c = tt
-
-pub overflow_mul-bright-3 : goal.overflow_mul-bright-3
-overflow_mul-bright-3 c = fits (given c) times_more tt
 
 pub overflow_add-bright : goal.overflow_add-bright
 overflow_add-bright c = fits (given c) times tt

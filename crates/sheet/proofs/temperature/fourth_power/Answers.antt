@@ -1,6 +1,6 @@
 -- `sheet::temperature::fourth_power` meets its contract: each step, as an expression, is safe in the ranges required. Assumes nothing.
 use mathlib.Core.List.{[], ◌∷◌}
-use Rattle.numbers.proofs.Reflection.{MachineExpression, arg, lit, ◌*ᵐ◌, Given, none, ◌and◌, fits, divides, equal_in}
+use Rattle.numbers.proofs.Reflection.{MachineExpression, arg, ◌*ᵐ◌, Given, none, ◌and◌, fits, equal_in}
 use Rattle.sheet.specs.Quantities as quantities
 use Rattle.sheet.specs.StepSheet.{U, V2, V4}
 use Rattle.sheet.proofs.Lines.{u, v2, v4}
@@ -16,20 +16,8 @@ pub returns : goal.returns
 unfolding U V2 V4
 returns c = equal_in (given c) (v4 f) quantities.v4 tt
 
-pub overflow_mul-u : goal.overflow_mul-u
-overflow_mul-u c = fits (given c) (lit 41 *ᵐ f) tt
-
-pub overflow_add-u : goal.overflow_add-u
-overflow_add-u c = fits (given c) (u f) tt
-
 pub overflow_mul-v2 : goal.overflow_mul-v2
 overflow_mul-v2 c = fits (given c) (u f *ᵐ u f) tt
 
-pub nonzero_div-v2 : goal.nonzero_div-v2
-nonzero_div-v2 c = divides (given c) (u f *ᵐ u f) (lit 10) tt
-
 pub overflow_mul-result : goal.overflow_mul-result
 overflow_mul-result c = fits (given c) (v2 f *ᵐ v2 f) tt
-
-pub nonzero_div-result : goal.nonzero_div-result
-nonzero_div-result c = divides (given c) (v2 f *ᵐ v2 f) (lit 1_000_000_000) tt

@@ -1,7 +1,7 @@
 -- `sheet::temperature::slope` meets its contract: each step, as an expression, is safe in the ranges required. Assumes nothing.
 use mathlib.Core.Path.{◌≡◌}
 use mathlib.Core.List.{[], ◌∷◌}
-use Rattle.numbers.proofs.Reflection.{MachineExpression, arg, lit, ◌*ᵐ◌, Given, none, ◌and◌, result, fits, divides, equal_in, quotient_asks, quotient_gives}
+use Rattle.numbers.proofs.Reflection.{MachineExpression, arg, lit, ◌*ᵐ◌, Given, none, ◌and◌, result, fits, equal_in, quotient_asks, quotient_gives}
 use Rattle.sheet.specs.Quantities as quantities
 use Rattle.sheet.specs.StepSheet.{U, V2, V4, V6, V7, D}
 use Rattle.sheet.proofs.Lines.{u, v2, v4, v6, v7, slope}
@@ -20,38 +20,17 @@ pub returns : goal.returns
 unfolding U V2 V4 V6 V7 D
 returns c = rw (gives c) (equal_in (given c.before) (slope m) quantities.slope tt)
 
-pub overflow_mul-u : goal.overflow_mul-u
-overflow_mul-u c = fits (given c) (lit 41 *ᵐ m) tt
-
-pub overflow_add-u : goal.overflow_add-u
-overflow_add-u c = fits (given c) (u m) tt
-
 pub overflow_mul-v2 : goal.overflow_mul-v2
 overflow_mul-v2 c = fits (given c) (u m *ᵐ u m) tt
-
-pub nonzero_div-v2 : goal.nonzero_div-v2
-nonzero_div-v2 c = divides (given c) (u m *ᵐ u m) (lit 10) tt
 
 pub overflow_mul-v4 : goal.overflow_mul-v4
 overflow_mul-v4 c = fits (given c) (v2 m *ᵐ v2 m) tt
 
-pub nonzero_div-v4 : goal.nonzero_div-v4
-nonzero_div-v4 c = divides (given c) (v2 m *ᵐ v2 m) (lit 1_000_000_000) tt
-
 pub overflow_mul-v6 : goal.overflow_mul-v6
 overflow_mul-v6 c = fits (given c) (v4 m *ᵐ v2 m) tt
-
-pub nonzero_div-v6 : goal.nonzero_div-v6
-nonzero_div-v6 c = divides (given c) (v4 m *ᵐ v2 m) (lit 1_000_000_000) tt
 
 pub overflow_mul-v6-2 : goal.overflow_mul-v6-2
 overflow_mul-v6-2 c = fits (given c) (v6 m *ᵐ u m) tt
 
 pub quotient-v7-requires : goal.quotient-v7-requires
 quotient-v7-requires c = quotient_asks (given c) (v6 m *ᵐ u m) (lit 100_000) tt
-
-pub nonzero_div-result : goal.nonzero_div-result
-nonzero_div-result c = rw (gives c) (divides (given c.before) (v7 m) (lit 5) tt)
-
-pub overflow_sub-result : goal.overflow_sub-result
-overflow_sub-result c = rw (gives c) (fits (given c.before) (slope m) tt)

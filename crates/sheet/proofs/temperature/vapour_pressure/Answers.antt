@@ -2,10 +2,9 @@
 -- Assumes nothing.
 use mathlib.Core.Path.{◌≡◌, refl, ap, ◌∙◌}
 use mathlib.Core.List.{[], ◌∷◌}
-use borrow.Author.Rules.{rules}
 use lib.IntN.{ℤ, pos, ◌+ℤ◌, ◌-ℤ◌, ◌*ℤ◌}
 use Rattle.numbers.specs.Whole.{◌÷↓◌}
-use Rattle.numbers.proofs.Reflection.{MachineExpression, arg, lit, ◌+ᵐ◌, ◌-ᵐ◌, ◌*ᵐ◌, ◌÷↓ᵐ◌, Given, none, ◌and◌, fits, divides, equal_in}
+use Rattle.numbers.proofs.Reflection.{MachineExpression, arg, lit, ◌+ᵐ◌, ◌-ᵐ◌, ◌*ᵐ◌, ◌÷↓ᵐ◌, Given, none, ◌and◌, fits, equal_in}
 use Rattle.sheet.specs.Quantities as quantities
 use Rattle.sheet.specs.StepSheet.{V4, V8, e}
 use Rattle.sheet.proofs.Lines.{distance}
@@ -41,21 +40,6 @@ returns c =
     let p = equal_in (given c) (sum *ᵐ lit 338_639 ÷↓ᵐ lit 100_000) quantities.vapour_pressure tt in
     (p.0 ∙ ap (λ (v : ℤ). line v f) (c.fourth_power-v4.ensures.0 ∙ ap V4 (read c.before.requires tt)) ∙ line_is f, p.1)
 
-pub fourth_power-v4-requires : goal.fourth_power-v4-requires
-fourth_power-v4-requires c = search rules
-
-pub overflow_mul-v8 : goal.overflow_mul-v8
-overflow_mul-v8 c = fits (given c) (v4 *ᵐ v4) tt
-
-pub nonzero_div-v8 : goal.nonzero_div-v8
-nonzero_div-v8 c = divides (given c) (v4 *ᵐ v4) (lit 1_000_000_000) tt
-
-pub overflow_add-result : goal.overflow_add-result
-overflow_add-result c = fits (given c) (distance f) tt
-
-pub overflow_mul-result : goal.overflow_mul-result
-overflow_mul-result c = fits (given c) (lit 1_900 *ᵐ distance f) tt
-
 pub overflow_sub-result : goal.overflow_sub-result
 overflow_sub-result c = fits (given c) (v8 -ᵐ lit 1_900 *ᵐ distance f) tt
 
@@ -64,6 +48,3 @@ overflow_add-result-2 c = fits (given c) sum tt
 
 pub overflow_mul-result-2 : goal.overflow_mul-result-2
 overflow_mul-result-2 c = fits (given c) (sum *ᵐ lit 338_639) tt
-
-pub nonzero_div-result : goal.nonzero_div-result
-nonzero_div-result c = divides (given c) (sum *ᵐ lit 338_639) (lit 100_000) tt

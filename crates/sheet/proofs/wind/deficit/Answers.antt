@@ -2,10 +2,11 @@
 use mathlib.Core.Path.{◌≡◌}
 use mathlib.Core.List.{List, [], ◌∷◌}
 use lib.IntN.{ℤ}
-use Rattle.numbers.proofs.Reflection.{MachineExpression, arg, lit, ◌+ᵐ◌, ◌-ᵐ◌, ◌÷↓ᵐ◌, Given, none, ◌and◌, result, fits, equal_in, quotient_asks, quotient_gives}
+use Rattle.numbers.proofs.Reflection.{MachineExpression, arg, lit, ◌+ᵐ◌, ◌-ᵐ◌, ◌÷↓ᵐ◌, Given, none, ◌and◌, result, equal_in, quotient_gives}
 use Rattle.sheet.specs.Quantities as quantities
 use Rattle.sheet.specs.StepSheet.{«V»}
 use Rattle.sheet.proofs.wind.deficit.Goals as goal
+use Rattle.sheet.proofs.wind.deficit.Goals.{Start}
 
 abbrev sum : MachineExpression
 sum = arg 0 +ᵐ arg 1
@@ -13,10 +14,10 @@ sum = arg 0 +ᵐ arg 1
 abbrev lack : MachineExpression
 lack = (sum ÷↓ᵐ lit 2) -ᵐ arg 2
 
-abbrev zs : goal.Start → List ℤ
+abbrev zs : Start → List ℤ
 zs c = c.args.maximum ∷ c.args.minimum ∷ c.args.ea ∷ []
 
-given : (c : goal.Start) → Given (quantities.vapour_pressure ∷ quantities.vapour_pressure ∷ quantities.vapour_pressure ∷ []) (zs c)
+given : (c : Start) → Given (quantities.vapour_pressure ∷ quantities.vapour_pressure ∷ quantities.vapour_pressure ∷ []) (zs c)
 given c = c.requires.0 and c.requires.1 and c.requires.2 and none
 
 gives : (c : goal.After-quotient) → c.quotient.result ≡ result (sum ÷↓ᵐ lit 2) (zs c.before)
@@ -25,12 +26,3 @@ gives c = quotient_gives (given c.before) sum (lit 2) c.quotient.ensures tt
 pub returns : goal.returns
 unfolding «V»
 returns c = rw (gives c) (equal_in (given c.before) lack quantities.deficit tt)
-
-pub overflow_add-maximum : goal.overflow_add-maximum
-overflow_add-maximum c = fits (given c) sum tt
-
-pub quotient-requires : goal.quotient-requires
-quotient-requires c = quotient_asks (given c) sum (lit 2) tt
-
-pub overflow_sub-result : goal.overflow_sub-result
-overflow_sub-result c = rw (gives c) (fits (given c.before) lack tt)
