@@ -21,21 +21,28 @@ pub fn read(files: &Files, specs: &Specs) -> Vec<Contract> {
         let mut scope = Scope::default();
         // The clause that is open, and how many brackets are.
         let (mut clause, mut depth) = ("", 0);
+        // What an impl of a trait says of its functions before them: its ghost members.
+        let mut given = BTreeSet::new();
         for line in text.lines() {
             let words = words(line);
             match words[..] {
                 ["ghost", "use", ..] => scope.take(line),
                 ["fn", name, ..] | [_, "fn", name, ..] | [_, _, _, "fn", name, ..] => {
                     let name = name.split('<').next().unwrap_or(name);
+                    clause = "";
                     contracts.push(Contract {
                         function: format!("{module}::{name}"),
-                        ..Contract::default()
+                        ensured: given.clone(),
+                        named: given.clone(),
                     });
                 }
                 _ if depth == 0 => clause = begun(&words),
                 _ => {}
             }
-            if let (false, Some(contract)) = (clause.is_empty(), contracts.last_mut()) {
+            if line == "}" {
+                given.clear();
+            }
+            if !clause.is_empty() {
                 let count = |bracket| words.iter().filter(|it| **it == bracket).count();
                 // The clause's own name is none of the definitions'.
                 let first = match depth {
@@ -46,9 +53,13 @@ pub fn read(files: &Files, specs: &Specs) -> Vec<Contract> {
                 let named = words[first..].iter();
                 let named = named.filter_map(|it| specs.brought_in(&scope, it));
                 let named: BTreeSet<usize> = named.collect();
-                contract.named.extend(&named);
-                if clause == "ensures" {
-                    contract.ensured.extend(named);
+                if clause == "member" {
+                    given.extend(named);
+                } else if let Some(contract) = contracts.last_mut() {
+                    contract.named.extend(&named);
+                    if clause == "ensures" {
+                        contract.ensured.extend(named);
+                    }
                 }
             }
         }
@@ -57,9 +68,10 @@ pub fn read(files: &Files, specs: &Specs) -> Vec<Contract> {
 }
 
 /// The kind of the clause that a line begins: `ensures {`, or with the clause's name `ensures at_most {`. A `*` stands at one
-/// about memory; a `ghost` clause has a value that the others share.
+/// about memory; a `ghost` clause has a value that the others share. A `member` is `ghost from_gives = {` of an impl.
 fn begun<'a>(words: &[&'a str]) -> &'a str {
     match words {
+        ["ghost", _, "=", ..] => "member",
         [first, "{", ..] | [first, _, "{", ..] => match first.trim_end_matches('*') {
             kind @ ("requires" | "ensures" | "ghost") => kind,
             _ => "",
@@ -106,6 +118,16 @@ pub extern \"C\" fn exported(day: Day) -> u64
 {
     judged
 }
+
+impl From<Day> for u64 {
+    ghost from_gives = { λ day n. n ≡ rules.number day };
+
+    fn from(day: Day) -> u64 {
+        judged
+    }
+}
+
+fn behind() {}
 ";
 
     #[test]
@@ -128,6 +150,8 @@ pub extern \"C\" fn exported(day: Day) -> u64
         let expected = [
             ("day::judge::judge", "judged", "judgedAsked"),
             ("day::judge::exported", "number", "Askednumber"),
+            ("day::judge::from", "number", "number"),
+            ("day::judge::behind", "", ""),
             ("day::plain", "", ""),
         ];
         let expected = expected.map(|(function, one, both)| (function, one.into(), both.into()));

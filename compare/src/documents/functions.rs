@@ -19,13 +19,12 @@ pub fn read(files: &Files) -> Vec<Function> {
         };
         let mut of_type = String::new();
         for (line, number) in text.lines().zip(1..) {
-            let words = words(line);
-            if let ["impl", name, ..] = words[..] {
+            if let Some(name) = implemented(line) {
                 of_type = format!("{name}::");
             } else if line == "}" {
                 of_type.clear();
             }
-            if let Some((name, is_public)) = begun(&words) {
+            if let Some((name, is_public)) = begun(&words(line)) {
                 functions.push(Function {
                     path: path.clone(),
                     line: number,
@@ -36,6 +35,17 @@ pub fn read(files: &Files) -> Vec<Function> {
         }
     }
     functions
+}
+
+/// The type whose methods a line begins: of an inherent impl or of a trait's, without its parameters.
+fn implemented(line: &str) -> Option<&str> {
+    let rest = line.strip_prefix("impl")?;
+    let rest = match rest.strip_prefix('<') {
+        Some(parameters) => parameters.split_once("> ")?.1,
+        None => rest.strip_prefix(' ')?,
+    };
+    let of = rest.split_once(" for ").map_or(rest, |(_, of)| of);
+    of.split(['<', ' ']).next()
 }
 
 /// The function that a line begins, and whether it is public.
@@ -64,6 +74,14 @@ impl Wind {
     }
 }
 
+impl<'a> Reader<'a> {
+    pub fn next(&mut self) -> Option<u8>
+}
+
+impl TryFrom<u8> for Kind {
+    fn try_from(n: u8) -> Result<Kind, u8>
+}
+
 fn inner<'a>(x: &'a [u8]) -> u8
 pub extern \"C\" fn fuortwem_judge(
 ";
@@ -82,8 +100,10 @@ pub extern \"C\" fn fuortwem_judge(
         let expected = [
             (1, "day::judge", true),
             (3, "day::readings::Wind::in_range", true),
-            (9, "day::readings::inner", false),
-            (10, "day::readings::fuortwem_judge", true),
+            (10, "day::readings::Reader::next", true),
+            (14, "day::readings::Kind::try_from", false),
+            (17, "day::readings::inner", false),
+            (18, "day::readings::fuortwem_judge", true),
         ];
         assert_eq!(found.collect::<Vec<_>>(), expected);
     }
