@@ -2,6 +2,7 @@
 use super::contracts::module_of;
 use super::definitions::words;
 use super::Files;
+use std::collections::BTreeSet;
 
 pub struct Function {
     pub path: String,
@@ -13,47 +14,113 @@ pub struct Function {
 
 pub fn read(files: &Files) -> Vec<Function> {
     let mut functions = Vec::new();
-    for (path, text) in files {
-        let Some(module) = module_of(path) else {
-            continue;
-        };
-        let mut of_type = String::new();
-        for (line, number) in text.lines().zip(1..) {
-            if let Some(name) = implemented(line) {
-                of_type = format!("{name}::");
-            } else if line == "}" {
-                of_type.clear();
+    let sources = || files.iter().filter_map(|it| Some((module_of(it.0)?, it)));
+    let inner: BTreeSet<(String, &str)> = sources()
+        .flat_map(|(module, (_, text))| {
+            let names = text.lines().filter_map(kept_inside);
+            names.map(move |name| (crate_of(&module).to_owned(), name))
+        })
+        .collect();
+    for (module, (path, text)) in sources() {
+        let is_inner = |name| inner.contains(&(crate_of(&module).to_owned(), name));
+        let mut of = Block::default();
+        for (at, line) in text.lines().enumerate() {
+            if line == "}" {
+                of = Block::default();
+            } else if let Some(begun) = Block::begun(line) {
+                of = begun;
             }
-            if let Some((name, is_public)) = begun(&words(line)) {
-                functions.push(Function {
-                    path: path.clone(),
-                    line: number,
-                    name: format!("{module}::{of_type}{name}"),
-                    is_public,
-                });
-            }
+            let Some((name, is_public)) = begun(&words(line)) else {
+                continue;
+            };
+            // The methods of a trait have no `pub`: they are as public as it is, and those that it only declares are no functions.
+            let is_public = match of.of_trait {
+                Some(_) if of.is_trait && !has_body(text.lines().skip(at)) => continue,
+                Some(of_trait) => !is_inner(of_trait) && !is_inner(of.name),
+                None => is_public,
+            };
+            let of_type = match of.name {
+                "" => String::new(),
+                name => format!("{name}::"),
+            };
+            functions.push(Function {
+                path: path.clone(),
+                line: at + 1,
+                name: format!("{module}::{of_type}{name}"),
+                is_public,
+            });
         }
     }
     functions
 }
 
-/// The type whose methods a line begins: of an inherent impl or of a trait's, without its parameters.
-fn implemented(line: &str) -> Option<&str> {
-    let rest = line.strip_prefix("impl")?;
-    let rest = match rest.strip_prefix('<') {
-        Some(parameters) => parameters.split_once("> ")?.1,
-        None => rest.strip_prefix(' ')?,
-    };
-    let of = rest.split_once(" for ").map_or(rest, |(_, of)| of);
-    of.split(['<', ' ']).next()
+fn crate_of(module: &str) -> &str {
+    module.split("::").next().unwrap_or(module)
+}
+
+/// What a line such as `impl TryFrom<u8> for Kind {` or `pub trait Line {` begins: the functions of a type or of a trait, by its
+/// name without its parameters, and the trait that they belong to.
+#[derive(Default)]
+struct Block<'a> {
+    name: &'a str,
+    of_trait: Option<&'a str>,
+    is_trait: bool,
+}
+
+impl<'a> Block<'a> {
+    fn begun(line: &'a str) -> Option<Self> {
+        if let Some(rest) = line.trim_start_matches("pub ").strip_prefix("trait ") {
+            let name = bare(rest);
+            return Some(Block {
+                name,
+                of_trait: Some(name),
+                is_trait: true,
+            });
+        }
+        let rest = line.strip_prefix("impl")?;
+        let rest = match rest.strip_prefix('<') {
+            Some(parameters) => parameters.split_once("> ")?.1,
+            None => rest.strip_prefix(' ')?,
+        };
+        let (of_trait, of) = match rest.split_once(" for ") {
+            Some((of_trait, of)) => (Some(bare(of_trait)), of),
+            None => (None, rest),
+        };
+        Some(Block {
+            name: bare(of),
+            of_trait,
+            is_trait: false,
+        })
+    }
+}
+
+/// The name that some text begins with, without its path and its parameters.
+fn bare(text: &str) -> &str {
+    let name = text.split(['<', '(', ' ', ':', ';']).next().unwrap_or(text);
+    name.rsplit("::").next().unwrap_or(name)
+}
+
+/// The type or the trait that a line declares for its own crate or module alone.
+fn kept_inside(line: &str) -> Option<&str> {
+    let line = line.strip_prefix("pub(crate) ").unwrap_or(line);
+    let sort = ["struct ", "enum ", "trait "];
+    sort.iter().find_map(|it| line.strip_prefix(it)).map(bare)
+}
+
+/// Whether the function that the first of some lines begins has a body: a trait's may end with its clauses.
+fn has_body<'a>(mut lines: impl Iterator<Item = &'a str>) -> bool {
+    let end = lines.find(|line| line.ends_with(';') || line.trim() == "{" || line.trim() == "}");
+    end.is_some_and(|line| line.trim() == "{")
 }
 
 /// The function that a line begins, and whether it is public.
 fn begun<'a>(words: &[&'a str]) -> Option<(&'a str, bool)> {
     let (is_public, words) = match words {
+        ["pub", "(", _, ")", words @ ..] => (false, words),
         ["pub", words @ ..] => (true, words),
         words => (false, words),
     };
+    let words = words.strip_prefix(&["const"]).unwrap_or(words);
     match words.strip_prefix(&["extern", "\"C\""]).unwrap_or(words) {
         ["fn", name, ..] => Some((name.split('<').next().unwrap_or(name), is_public)),
         _ => None,
@@ -82,6 +149,31 @@ impl TryFrom<u8> for Kind {
     fn try_from(n: u8) -> Result<Kind, u8>
 }
 
+struct Each;
+
+impl Iterator for Each {
+    fn next(&mut self) -> Option<u8> {
+        None
+    }
+}
+
+pub trait Line: Copy {
+    fn put(self, pen: &mut Pen)
+        ensures { result ≡ text };
+
+    fn size(self) -> usize
+        ensures { result ≡ length text }
+    {
+        0
+    }
+}
+
+impl<const N: usize> Line for Row<N> {
+    fn put(self, pen: &mut Pen) {}
+}
+
+pub(crate) const fn within<'a>(x: &'a [u8]) -> u8
+
 fn inner<'a>(x: &'a [u8]) -> u8
 pub extern \"C\" fn fuortwem_judge(
 ";
@@ -101,9 +193,13 @@ pub extern \"C\" fn fuortwem_judge(
             (1, "day::judge", true),
             (3, "day::readings::Wind::in_range", true),
             (10, "day::readings::Reader::next", true),
-            (14, "day::readings::Kind::try_from", false),
-            (17, "day::readings::inner", false),
-            (18, "day::readings::fuortwem_judge", true),
+            (14, "day::readings::Kind::try_from", true),
+            (20, "day::readings::Each::next", false),
+            (29, "day::readings::Line::size", true),
+            (37, "day::readings::Row::put", true),
+            (40, "day::readings::within", false),
+            (42, "day::readings::inner", false),
+            (43, "day::readings::fuortwem_judge", true),
         ];
         assert_eq!(found.collect::<Vec<_>>(), expected);
     }
