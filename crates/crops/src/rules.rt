@@ -4,7 +4,6 @@ ghost use Rattle.crops.specs.Crop.{over_any, bad_crop, in_season};
 
 use crate::Crop;
 use day::calendar::{FIRST_YEAR, LAST_YEAR};
-use day::rules::not_capital;
 
 // The highest percentage.
 const HIGHEST: u8 = 200;
@@ -25,10 +24,7 @@ impl Crop {
     pub fn is_bad(self) -> bool
         ensures { result ≡ bad_crop self }
     {
-        not_capital(self.code.first)
-            || not_capital(self.code.second)
-            || not_capital(self.code.third)
-            || not_capital(self.code.fourth)
+        self.code.is_bad()
             || self.year < FIRST_YEAR
             || LAST_YEAR < self.year
             || self.over_any()
