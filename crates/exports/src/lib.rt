@@ -14,9 +14,12 @@ ghost use Rattle.exports.specs.Version.{version};
 
 use day::judge::judge;
 use day::{Code, Day, Earlier, Station, Verdict};
+use station_log::Fault;
 use text::Printed;
 
-// The number of the mark in the high half: a refusal's has one byte.
+// What stands in the high half for no refusal, and for the mark: a refusal's number has one byte.
+const NO_REFUSAL: u32 = 0;
+
 const MARK: u32 = 256;
 
 // The library's version: a program that was compiled with another fuortwem.h sees it here.
@@ -27,21 +30,18 @@ pub extern "C" fn fuortwem_version() -> u32
     1_006_000
 }
 
-// A refusal's number, 0 for none, or the mark's in the high half, and a value in the low half.
+// A refusal's number, 0 for none, or the mark's in the high half, and a value in the low half: the C interface hands back one number, and no enum.
 fn packed(number: u32, value: u32) -> u64
     ensures { said_by result ≡ said number value }
 {
-    (number as u64) * 4_294_967_296 + (value as u64)
+    u64::from(number) * 4_294_967_296 + u64::from(value)
 }
 
 // An earlier mean, unless its flag is 0. The flag is a number, so that each value that a caller can pass has a meaning.
 fn mean_of(flag: u8, tenths: i16) -> Option<i16>
     ensures { result ≡ mean_of flag tenths }
 {
-    if flag == 0 {
-        return None;
-    }
-    Some(tenths)
+    (flag != 0).then_some(tenths)
 }
 
 // A day handed in alone. The high half of the result is the refusal's number, or 0 or the mark's for none; the low half is then the figure.
@@ -110,8 +110,8 @@ pub extern "C" fn fuortwem_judge(
         three: mean_of(has_three, three),
     };
     match judge(station, day, earlier) {
-        Verdict::Figure(n) => packed(0, n),
-        Verdict::Refused(why) => packed(u32::from(why), 0),
+        Verdict::Figure(n) => packed(NO_REFUSAL, n),
+        Verdict::Refused(why) => packed(why.into(), 0),
         Verdict::Estimated(n) => packed(MARK, n),
     }
 }
@@ -127,8 +127,8 @@ pub extern "C" fn fuortwem_read_log(log: &[u8], answers: &mut [u8]) -> u64
     ensures crop_figures_owed { CropFiguresOwed log.now answers.old answers.new }
 {
     match promises::read_log(log, answers) {
-        Ok(n) => packed(0, n as u32),
-        Err(refused) => packed(u8::from(refused.why) as u32, refused.place as u32),
+        Ok(n) => packed(NO_REFUSAL, n as u32),
+        Err(refused) => packed(u8::from(refused.why).into(), refused.place as u32),
     }
 }
 
@@ -144,7 +144,7 @@ pub extern "C" fn fuortwem_report(log: &[u8], answers: &mut [u8], text: &mut [u8
     ensures crop_figures_owed { CropFiguresOwed log.now answers.old answers.new }
 {
     match text::write_report(log, answers, text) {
-        Printed::Written(n) => packed(0, n as u32),
-        Printed::Needs(n) => packed(12, n as u32),
+        Printed::Written(n) => packed(NO_REFUSAL, n as u32),
+        Printed::Needs(n) => packed(u8::from(Fault::ShortBuffer).into(), n as u32),
     }
 }

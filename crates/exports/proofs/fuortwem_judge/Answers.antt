@@ -61,7 +61,7 @@ returns-in-Figure c = judged_said c.before.before _ (c.packed.ensures ∙ ap ver
 pub returns-in-Refused : goal.returns-in-Refused
 returns-in-Refused c =
     judged_said c.before.before.before _
-    (c.packed-in-Refused.ensures ∙ ap (λ (k : ℕ). said k 0) c.from.ensures ∙ refusal_said c.in-Refused.why ∙ ap verdict_said (sym c.in-Refused.is))
+    (c.packed-in-Refused.ensures ∙ ap (λ (k : ℕ). said k 0) c.into.ensures ∙ refusal_said c.in-Refused.why ∙ ap verdict_said (sym c.in-Refused.is))
 
 pub returns-in-Estimated : goal.returns-in-Estimated
 returns-in-Estimated c = judged_said c.before.before _ (c.packed-in-Estimated.ensures ∙ ap verdict_said (sym c.in-Estimated.is))

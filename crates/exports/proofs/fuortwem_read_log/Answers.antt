@@ -26,7 +26,7 @@ pub returns-in-Err : goal.returns-in-Err
 returns-in-Err c =
     let read = c.in-Err.ensures in
     let outcome = read.read.outcome in
-    let said = c.packed-in-Err.ensures ∙ refused_said _ _ c.from.ensures outcome ∙ ap outcome_said outcome in
+    let said = c.packed-in-Err.ensures ∙ refused_said _ _ (c.into.ensures ∙ c.from.ensures) outcome ∙ ap outcome_said outcome in
     record {
       result_value = said;
       length_said = length_said _ _ _ said;

@@ -8,7 +8,7 @@ use Rattle.text.specs.Report.{Prints, report_of}
 use Rattle.text.specs.declared.Printed.{Printed}
 use Rattle.text.proofs.LongEnough.{report_most}
 use Rattle.text.proofs.Prints.{size_in, printed_size}
-use Rattle.exports.specs.Told.{printed_said, ReportSaid}
+use Rattle.exports.specs.Told.{said, printed_said, ReportSaid}
 use Rattle.exports.proofs.fuortwem_report.Goals as goal
 
 small : (s : List ℕ) (size : ℕ) {before after : List ℕ} (p : Printed) → AreBytes s → Prints (report_of s size) before p after → size_in p < 4294967296
@@ -38,7 +38,7 @@ pub returns-in-Needs : goal.returns-in-Needs
 unfolding ReportSaid
 returns-in-Needs c =
     let report = c.in-Needs.ensures in
-    let said = c.packed-in-Needs.ensures in
+    let said = c.packed-in-Needs.ensures ∙ ap (λ (k : ℕ). said k c.in-Needs.n) (c.into.ensures ∙ c.from.ensures) in
     record {
       result_value = said ∙ ap printed_said report.prints.told;
       text_after = report.prints.bytes;

@@ -3,4 +3,4 @@ use Rattle.exports.proofs.Told.{halves_said}
 use Rattle.exports.proofs.packed.Goals as goal
 
 pub returns : goal.returns
-returns c = halves_said c.args.number c.args.value c.ranges.value.fits
+returns c = rw (c.from.ensures, c.from-2.ensures) (halves_said c.args.number c.args.value c.ranges.value.fits)
