@@ -2,16 +2,15 @@
 -- than the lent 64 bytes (`day_line_most`, `crop_line_most`, `month_line_most`, `season_line_most`, `refused_line_most`). What a log's totals can be makes
 -- shorter lines: `month_line_of_log`, `season_line_of_log`, `month_line_of_day`. Assumes nothing.
 use mathlib.Core.Path.{◌≡◌, ap}
-use mathlib.Core.List.{[], ◌∷◌}
+use mathlib.Core.List.{List}
 use Prim.Native.Nat.{ℕ, suc, ◌+◌, ◌/◌, ◌^◌, ◌≤◌, ◌<◌}
 use native.Mathlib.Omega.{arith}
 use lib.Dec.{lit<}
 use lib.ListN.{length, length-append}
 use denote.Laws.{Is}
 use denote.Enum.Declared.{row}
-use denote.Enum.Laws.{val}
+use mir.Val.{Val}
 use Rattle.day.specs.contracts.Verdict.{the_type}
-use Rattle.day.proofs.Verdict.TheLaws.{the_laws}
 use Rattle.day.specs.Rules.{number_of}
 use Rattle.day.specs.declared.Code.{Code}
 use Rattle.day.specs.declared.Refusal.{Refusal}
@@ -21,9 +20,9 @@ use Rattle.day.specs.declared.Verdict.TheVariants.{Figure, Refused, Estimated}
 use Rattle.lines.specs.Text.{digits, padded, inches, field, verdict_text, day_line, crop_line, totals, month_line, season_line, refused_line}
 use Rattle.lines.proofs.Digits.{padded_short, digits_most, padded_most, inches_most}
 
--- what holds of a verdict that code is handed: its figure fits in 32 bits
+-- what holds of a verdict that code is handed, alone or in a line: its figure fits in 32 bits
 abbrev pub Handed : Verdict → Type 0
-Handed v = Is (row the_type) v (val the_type the_laws v ∷ [])
+Handed v = (stored : List Val) × Is (row the_type) v stored
 
 two_digits : (r : Refusal) → number_of r < 10 ^ 2
 two_digits StationField = lit< tt
@@ -46,10 +45,10 @@ estimate_size n = simp length-append
 verdict_most : (v : Verdict) → Handed v → length (verdict_text v) ≤ 13
 unfolding verdict_text
 verdict_most (Figure n) handed =
-    let fits : n < 2 ^ 32 = handed.1.1.1.1.0.1 in
+    let fits : n < 2 ^ 32 = handed.1.1.1.1.1.0.1 in
     omega (arith, inches_most 5 n (omega arith))
 verdict_most (Estimated n) handed =
-    let fits : n < 2 ^ 32 = handed.1.1.1.1.0.1 in
+    let fits : n < 2 ^ 32 = handed.1.1.1.1.1.0.1 in
     omega (arith, estimate_size n, inches_most 5 n (omega arith))
 verdict_most (Refused r) handed = omega (arith, refusal_most r)
 

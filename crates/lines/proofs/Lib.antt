@@ -1,5 +1,6 @@
 -- The lemmas that belong to no one function.
 pub mod Written
+pub mod Pens
 pub mod Digits
 pub mod Lengths
 pub mod Examples

@@ -1,94 +1,124 @@
-// Whole lines, laid over a buffer from `at` on, each with its newline.
-ghost use Rattle.std.specs.Prelude.{◌+◌, ◌≤◌, length};
+// The lines of a report, by what stands in them.
+ghost use Rattle.std.specs.Prelude.{◌≤◌, length};
+ghost use Rattle.lines.specs.Pen.{Fits, Wrote};
 ghost use Rattle.lines.specs.Text.{header, day_line, crop_line, totals, month_line, season_line, refused_line};
-ghost use Rattle.lines.specs.Written.{Written};
 
-use crate::fields::{
-    put_byte, put_code, put_digits, put_four, put_inches_field, put_number_field, put_verdict_field,
-};
+use crate::Line;
+use crate::pen::Pen;
 use day::{Code, Verdict};
+use totals::tally::Total;
 
-pub fn put_header(out: &mut [u8], at: usize) -> usize
-    requires { at + length header ≤ length out.old }
-    ensures { Written out.old at header out.new result }
-{
-    let year = put_four(out, at, b'S', b'T', b'N', b' ');
-    let d = put_four(out, year, b'Y', b'E', b'A', b'R');
-    let et = put_four(out, d, b' ', b'D', b'A', b'Y');
-    put_four(out, et, b' ', b'E', b'T', b'\n')
+// The line above the days.
+#[derive(Clone, Copy)]
+pub struct Header;
+
+impl Line for Header {
+    ghost text = { λ line. header };
+
+    fn put(self, pen: &mut Pen<'_>) {
+        pen.put_bytes(b"STN YEAR DAY ET\n");
+    }
 }
 
-pub fn put_day_line(
-    out: &mut [u8],
-    at: usize,
-    code: Code,
-    year: u16,
-    d: u16,
-    verdict: Verdict,
-) -> usize
-    requires { at + length (day_line code year d verdict) ≤ length out.old }
-    ensures { Written out.old at (day_line code year d verdict) out.new result }
-{
-    let code_end = put_code(out, at, code);
-    let year_end = put_number_field(out, code_end, 4, year as u64);
-    let d_end = put_number_field(out, year_end, 3, d as u64);
-    let verdict_end = put_verdict_field(out, d_end, verdict);
-    put_byte(out, verdict_end, b'\n')
+// The line of a day.
+#[derive(Clone, Copy)]
+pub struct DayLine {
+    pub code: Code,
+    pub year: u16,
+    pub d: u16,
+    pub verdict: Verdict,
 }
 
-pub fn put_crop_line(out: &mut [u8], at: usize, code: Code, n: u32) -> usize
-    requires { at + length (crop_line code n) ≤ length out.old }
-    ensures { Written out.old at (crop_line code n) out.new result }
-{
-    let code_end = put_code(out, at, code);
-    let figure_end = put_inches_field(out, code_end, n as u64);
-    put_byte(out, figure_end, b'\n')
+impl Line for DayLine {
+    ghost text = { λ line. day_line line.code line.year line.d line.verdict };
+
+    fn put(self, pen: &mut Pen<'_>) {
+        pen.put_code(self.code);
+        pen.put_number_field(4, u64::from(self.year));
+        pen.put_number_field(3, u64::from(self.d));
+        pen.put_verdict_field(self.verdict);
+        pen.put_bytes(b"\n");
+    }
+}
+
+// The line of a crop's figure.
+#[derive(Clone, Copy)]
+pub struct CropLine {
+    pub code: Code,
+    pub n: u32,
+}
+
+impl Line for CropLine {
+    ghost text = { λ line. crop_line line.code line.n };
+
+    fn put(self, pen: &mut Pen<'_>) {
+        pen.put_code(self.code);
+        pen.put_inches_field(u64::from(self.n));
+        pen.put_bytes(b"\n");
+    }
 }
 
 // What ends both lines of totals: the days answered and their sum in ten-thousandths of an inch.
-fn put_totals(out: &mut [u8], at: usize, days: u32, sum: u64) -> usize
-    requires { at + length (totals days sum) ≤ length out.old }
-    ensures { Written out.old at (totals days sum) out.new result }
+fn put_totals(pen: &mut Pen<'_>, total: Total)
+    requires { Fits pen.old (totals total.days total.sum) }
+    ensures { Wrote pen.old (totals total.days total.sum) pen.new }
 {
-    let days_end = put_number_field(out, at, 0, days as u64);
-    let sum_end = put_inches_field(out, days_end, sum);
-    put_byte(out, sum_end, b'\n')
+    pen.put_number_field(0, u64::from(total.days));
+    pen.put_inches_field(total.sum);
+    pen.put_bytes(b"\n");
 }
 
-pub fn put_month_line(
-    out: &mut [u8],
-    at: usize,
-    code: Code,
-    year: u16,
-    month: u16,
-    days: u32,
-    sum: u64,
-) -> usize
-    requires { at + length (month_line code year month days sum) ≤ length out.old }
-    ensures { Written out.old at (month_line code year month days sum) out.new result }
-{
-    let code_end = put_code(out, at, code);
-    let year_end = put_number_field(out, code_end, 4, year as u64);
-    let month_end = put_number_field(out, year_end, 2, month as u64);
-    put_totals(out, month_end, days, sum)
+// The line of a month's totals.
+#[derive(Clone, Copy)]
+pub struct MonthLine {
+    pub code: Code,
+    pub year: u16,
+    pub month: u16,
+    pub total: Total,
 }
 
-pub fn put_season_line(out: &mut [u8], at: usize, code: Code, days: u32, sum: u64) -> usize
-    requires { at + length (season_line code days sum) ≤ length out.old }
-    ensures { Written out.old at (season_line code days sum) out.new result }
-{
-    let code_end = put_code(out, at, code);
-    let word_end = put_four(out, code_end, b' ', b'A', b'L', b'L');
-    put_totals(out, word_end, days, sum)
+impl Line for MonthLine {
+    ghost text = { λ line. month_line line.code line.year line.month line.total.days line.total.sum };
+
+    fn put(self, pen: &mut Pen<'_>) {
+        pen.put_code(self.code);
+        pen.put_number_field(4, u64::from(self.year));
+        pen.put_number_field(2, u64::from(self.month));
+        put_totals(pen, self.total);
+    }
 }
 
-pub fn put_refused_line(out: &mut [u8], at: usize, number: u8, value: usize) -> usize
-    requires { at + length (refused_line number value) ≤ length out.old }
-    ensures { Written out.old at (refused_line number value) out.new result }
-{
-    let half = put_four(out, at, b'R', b'E', b'F', b'U');
-    let start = put_four(out, half, b'S', b'E', b'D', b' ');
-    let number_end = put_digits(out, start, number as u64);
-    let value_end = put_number_field(out, number_end, 0, value as u64);
-    put_byte(out, value_end, b'\n')
+// The line of a season's totals.
+#[derive(Clone, Copy)]
+pub struct SeasonLine {
+    pub code: Code,
+    pub total: Total,
+}
+
+impl Line for SeasonLine {
+    ghost text = { λ line. season_line line.code line.total.days line.total.sum };
+
+    fn put(self, pen: &mut Pen<'_>) {
+        pen.put_code(self.code);
+        pen.put_bytes(b" ALL");
+        put_totals(pen, self.total);
+    }
+}
+
+// The line of a refused log.
+#[derive(Clone, Copy)]
+pub struct RefusedLine {
+    pub number: u8,
+    pub value: usize,
+}
+
+impl Line for RefusedLine {
+    ghost text = { λ line. refused_line line.number line.value };
+
+    fn put(self, pen: &mut Pen<'_>) {
+        pen.put_bytes(b"REFUSED");
+        pen.put_number_field(0, u64::from(self.number));
+        pen.put_number_field(0, self.value as u64);
+        pen.put_bytes(b"\n");
+    }
 }

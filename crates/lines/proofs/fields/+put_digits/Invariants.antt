@@ -1,5 +1,0 @@
--- `lines::fields::put_digits` ends since a number of two digits or more is larger than its tenth. Assumes nothing.
-use Rattle.lines.proofs.fields.+put_digits.Given as goal
-
-abbrev pub decreases-put_digits : goal.decreases-put_digits
-decreases-put_digits l = l.n
