@@ -3,6 +3,7 @@
 -- Assumes nothing.
 use mathlib.Core.Path.{◌≡◌, refl, sym, ap, ap₂, ◌∙◌}
 use mathlib.Core.Bool.{Bool, true, false, not, cond}
+use Rattle.std.specs.Prelude.{Option, Some, None}
 use mathlib.Core.List.{List, [], ◌∷◌, ◌++◌, append_assoc, append-nil}
 use Prim.Native.Nat.{ℕ, zero, suc, ◌≤◌, ◌<◌}
 use native.Mathlib.Decide.{ℕ_discrete}
@@ -12,7 +13,6 @@ use Rattle.totals.specs.Months.{year_at, month_at, months}
 use Rattle.totals.specs.Tally.{begun, so_far, after, ended, month_number, Comes, reached, InMonthOrder}
 use Rattle.totals.specs.Totals.{none, one, plus, counted_of, share_of, total_of, is_month, month_total, season_total, each_month}
 use Rattle.totals.specs.declared.tally.Counted.{Counted}
-use Rattle.totals.specs.declared.tally.Counted.TheVariants.{Nothing, Day}
 use Rattle.totals.specs.declared.tally.Tally.{Tally}
 use Rattle.totals.specs.declared.tally.Total.{Total}
 use Rattle.totals.proofs.Shares.{plus_none, one_more, is_month_lem, not_month, its_month, no_other}
@@ -71,13 +71,13 @@ module _ (line : ℕ → ℕ → Total → List ℕ) (last : Total → List ℕ)
 
   -- ---- one answer more
 
-  record Stepped (gone on : List Answer) (t : Tally) (k : ℕ) (c : Counted) : Type 0 where
+  record Stepped (gone on : List Answer) (t : Tally) (k : ℕ) (c : Option Counted) : Type 0 where
     lines : each_month line (month_total gone) k ++ ended line t c ≡ each_month line (month_total on) (reached k c)
     there : Reached on (after t c) (reached k c)
 
   module _ (gone on : List Answer) (t : Tally) (k : ℕ) (r : Reached gone t k) where
-    stepped : (c : Counted) → ((chosen : ℕ → ℕ → Bool) → total_of chosen on ≡ plus (total_of chosen gone) (share_of chosen c)) → Comes k c → Stepped gone on t k c
-    stepped Nothing more comes =
+    stepped : (c : Option Counted) → ((chosen : ℕ → ℕ → Bool) → total_of chosen on ≡ plus (total_of chosen gone) (share_of chosen c)) → Comes k c → Stepped gone on t k c
+    stepped None more comes =
         let same : (chosen : ℕ → ℕ → Bool) → total_of chosen gone ≡ total_of chosen on = λ chosen. sym (more chosen ∙ plus_none (total_of chosen gone)) in
         record {
           lines = append-nil (each_month line (month_total gone) k) ∙ each_alike (month_total gone) (month_total on) k (λ j h. same (is_month (year_at j) (month_at j)));
@@ -90,52 +90,52 @@ module _ (line : ℕ → ℕ → Total → List ℕ) (last : Total → List ℕ)
                 later = λ j h. sym (same (is_month (year_at j) (month_at j))) ∙ r.later j h;
               };
         }
-    stepped (Day year month n) more comes = by (ℕ_discrete k i)
+    stepped (Some c) more comes = by (ℕ_discrete k i)
       where
         i : ℕ
-        i = month_number year month
+        i = month_number c.year c.month
 
         -- in its own month's total, and in no other's
-        in_it : total_at on i ≡ plus (total_at gone i) (one n)
-        in_it = more (is_month (year_at i) (month_at i)) ∙ ap (plus (total_at gone i)) (its_month k year month n comes)
+        in_it : total_at on i ≡ plus (total_at gone i) (one c.n)
+        in_it = more (is_month (year_at i) (month_at i)) ∙ ap (plus (total_at gone i)) (its_month k c comes)
 
         others : (j : ℕ) → (i ≡ j → ⊥) → total_at on j ≡ total_at gone j
         others j other =
-            more (is_month (year_at j) (month_at j)) ∙ ap (plus (total_at gone j)) (no_other k year month n comes j other) ∙ plus_none (total_at gone j)
+            more (is_month (year_at j) (month_at j)) ∙ ap (plus (total_at gone j)) (no_other k c comes j other) ∙ plus_none (total_at gone j)
 
         alike : each_month line (month_total gone) i ≡ each_month line (month_total on) i
         alike = each_alike (month_total gone) (month_total on) i (λ j h. sym (others j (λ e. absurd (omega (arith, h, e)))))
 
-        reach : (u : Total) → u ≡ total_at gone i → Reached on (record { year = year; month = month; total = plus u (one n); season = plus t.season (one n) }) i
+        reach : (u : Total) → u ≡ total_at gone i → Reached on (record { year = c.year; month = c.month; total = plus u (one c.n); season = plus t.season (one c.n) }) i
         reach u e =
             record {
               year = sym comes.0;
               month = sym comes.1;
-              total = ap (λ (v : Total). plus v (one n)) e ∙ sym in_it;
-              season = ap (λ (v : Total). plus v (one n)) r.season ∙ sym (more (λ y m. true));
+              total = ap (λ (v : Total). plus v (one c.n)) e ∙ sym in_it;
+              season = ap (λ (v : Total). plus v (one c.n)) r.season ∙ sym (more (λ y m. true));
               later = λ j h. others j (λ f. absurd (omega (arith, h, f))) ∙ r.later j (omega (arith, h, comes.2));
             }
 
         -- of the month that is open or of a later one
-        by : Dec (k ≡ i) → Stepped gone on t k (Day year month n)
+        by : Dec (k ≡ i) → Stepped gone on t k (Some c)
         by (yes e) =
-            let test : is_month t.year t.month year month ≡ true =
-            (λ x. is_month ((r.year ∙ ap year_at e) x) ((r.month ∙ ap month_at e) x) year month) ∙ is_month_lem i comes.0 comes.1 in
+            let test : is_month t.year t.month c.year c.month ≡ true =
+            (λ x. is_month ((r.year ∙ ap year_at e) x) ((r.month ∙ ap month_at e) x) c.year c.month) ∙ is_month_lem i comes.0 comes.1 in
             record {
               lines =
                   ap (λ (b : Bool). each_month line (month_total gone) k ++ cond (not b) (line t.year t.month t.total) []) test
                   ∙ append-nil (each_month line (month_total gone) k) ∙ ap (each_month line (month_total gone)) e ∙ alike;
-              there = reach (so_far t year month) (ap (λ (b : Bool). cond b t.total none) test ∙ r.total ∙ ap (total_at gone) e);
+              there = reach (so_far t c.year c.month) (ap (λ (b : Bool). cond b t.total none) test ∙ r.total ∙ ap (total_at gone) e);
             }
         by (no f) =
             let past : k < i = omega (arith, comes.2, f) in
-            let test : is_month t.year t.month year month ≡ false =
-            (λ x. is_month (r.year x) (r.month x) year month) ∙ not_month i k comes.0 comes.1 (λ e. f (sym e)) in
+            let test : is_month t.year t.month c.year c.month ≡ false =
+            (λ x. is_month (r.year x) (r.month x) c.year c.month) ∙ not_month i k comes.0 comes.1 (λ e. f (sym e)) in
             record {
               lines =
                   ap (λ (b : Bool). each_month line (month_total gone) k ++ cond (not b) (line t.year t.month t.total) []) test
                   ∙ open_said r ∙ up_to r i past ∙ alike;
-              there = reach (so_far t year month) (ap (λ (b : Bool). cond b t.total none) test ∙ sym (r.later i past));
+              there = reach (so_far t c.year c.month) (ap (λ (b : Bool). cond b t.total none) test ∙ sym (r.later i past));
             }
 
   -- ---- all of them
@@ -157,9 +157,9 @@ module _ (line : ℕ → ℕ → Total → List ℕ) (last : Total → List ℕ)
       ∙ going left (gone ++ a ∷ []) (after t c) (reached k c) (still c ordered.0) step.there ordered.1
       ∙ ap Whole (append_assoc gone (a ∷ []) left)
     where
-      still : (c : Counted) → Comes k c → reached k c < months
-      still Nothing h = inside
-      still (Day year month n) h = h.3
+      still : (c : Option Counted) → Comes k c → reached k c < months
+      still None h = inside
+      still (Some c) h = h.3
 
   pub said_in_turn : (answers : List Answer) → InMonthOrder 0 answers → said line last begun answers ≡ Whole answers
   said_in_turn answers ordered =

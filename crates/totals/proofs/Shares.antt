@@ -2,6 +2,7 @@
 -- `no_other`). So the months' totals added up are the season's (`season_is_months`). Assumes nothing.
 use mathlib.Core.Path.{◌≡◌, refl, sym, ap, ap₂, ◌∙◌}
 use mathlib.Core.Bool.{Bool, true, false, cond, ◌&&◌, and-false}
+use Rattle.std.specs.Prelude.{Option, Some, None}
 use mathlib.Core.List.{List, [], ◌∷◌, ◌++◌}
 use Prim.Native.Nat.{ℕ, zero, suc, ◌≤◌, ◌<◌}
 use native.Mathlib.Decide.{ℕ_discrete}
@@ -13,7 +14,6 @@ use Rattle.totals.specs.Months.{year_at, month_at, months}
 use Rattle.totals.specs.Tally.{month_number, reached, Comes, InMonthOrder}
 use Rattle.totals.specs.Totals.{none, one, plus, counted_of, share_of, total_of, is_month, month_total, season_total}
 use Rattle.totals.specs.declared.tally.Counted.{Counted}
-use Rattle.totals.specs.declared.tally.Counted.TheVariants.{Nothing, Day}
 use Rattle.totals.specs.declared.tally.Total.{Total}
 
 -- the first k months together
@@ -48,7 +48,7 @@ one_more chosen (b ∷ before) a =
 
 -- ---- the share of a month
 
-abbrev pub share_at : Counted → ℕ → ℕ → Total
+abbrev pub share_at : Option Counted → ℕ → ℕ → Total
 share_at c year month = share_of (is_month year month) c
 
 pub same_month : (year month : ℕ) → is_month year month year month ≡ true
@@ -68,15 +68,15 @@ is_month_lem i {year} {month} y m = (λ x. is_month (y x) (m x) year month) ∙ 
 pub not_month : (i j : ℕ) {year month : ℕ} → year_at i ≡ year → month_at i ≡ month → (i ≡ j → ⊥) → is_month (year_at j) (month_at j) year month ≡ false
 not_month i j {year} {month} y m other = other_month (year_at j) (month_at j) year month (λ e. other (omega (arith, y, m, e.0, e.1)))
 
-module _ (k year month n : ℕ) (c : Comes k (Day year month n)) where
+module _ (k : ℕ) (c : Counted) (comes : Comes k (Some c)) where
   abbrev i : ℕ
-  i = month_number year month
+  i = month_number c.year c.month
 
-  pub its_month : share_at (Day year month n) (year_at i) (month_at i) ≡ one n
-  its_month = ap (λ (b : Bool). cond b (one n) none) (is_month_lem i c.0 c.1)
+  pub its_month : share_at (Some c) (year_at i) (month_at i) ≡ one c.n
+  its_month = ap (λ (b : Bool). cond b (one c.n) none) (is_month_lem i comes.0 comes.1)
 
-  pub no_other : (j : ℕ) → (i ≡ j → ⊥) → share_at (Day year month n) (year_at j) (month_at j) ≡ none
-  no_other j other = ap (λ (b : Bool). cond b (one n) none) (not_month i j c.0 c.1 other)
+  pub no_other : (j : ℕ) → (i ≡ j → ⊥) → share_at (Some c) (year_at j) (month_at j) ≡ none
+  no_other j other = ap (λ (b : Bool). cond b (one c.n) none) (not_month i j comes.0 comes.1 other)
 
 -- ---- all the months
 
@@ -93,28 +93,28 @@ added_plus f g (suc k) =
     ∙ plus_across (together f k) (together g k) (f (year_at k) (month_at k)) (g (year_at k) (month_at k))
 
 -- an answer's shares of the first k months: nothing before its own month, and from there on its own
-module _ (k year month n : ℕ) (c : Comes k (Day year month n)) where
-  before_it : (j : ℕ) → j ≤ month_number year month → together (share_at (Day year month n)) j ≡ none
+module _ (k : ℕ) (c : Counted) (comes : Comes k (Some c)) where
+  before_it : (j : ℕ) → j ≤ month_number c.year c.month → together (share_at (Some c)) j ≡ none
   unfolding together
   before_it zero h = refl
   before_it (suc j) h =
-      ap₂ plus (before_it j (omega (arith, h))) (no_other k year month n c j (λ e. absurd (omega (arith, h, e)))) ∙ plus_none none
+      ap₂ plus (before_it j (omega (arith, h))) (no_other k c comes j (λ e. absurd (omega (arith, h, e)))) ∙ plus_none none
 
-  from_it : (j : ℕ) → month_number year month < j → together (share_at (Day year month n)) j ≡ one n
+  from_it : (j : ℕ) → month_number c.year c.month < j → together (share_at (Some c)) j ≡ one c.n
   unfolding together
   from_it zero h = absurd (omega (arith, h))
-  from_it (suc j) h = by (ℕ_discrete (month_number year month) j) (from_it j)
+  from_it (suc j) h = by (ℕ_discrete (month_number c.year c.month) j) (from_it j)
     where
-      by : Dec (month_number year month ≡ j) → (month_number year month < j → together (share_at (Day year month n)) j ≡ one n)
-          → together (share_at (Day year month n)) (suc j) ≡ one n
+      by : Dec (month_number c.year c.month ≡ j) → (month_number c.year c.month < j → together (share_at (Some c)) j ≡ one c.n)
+          → together (share_at (Some c)) (suc j) ≡ one c.n
       by (yes e) rest =
           ap₂ plus (before_it j (omega (arith, e)))
-          (ap (λ (m : ℕ). share_at (Day year month n) (year_at m) (month_at m)) (sym e) ∙ its_month k year month n c) ∙ none_plus (one n)
-      by (no f) rest = ap₂ plus (rest (omega (arith, h, f))) (no_other k year month n c j f) ∙ plus_none (one n)
+          (ap (λ (m : ℕ). share_at (Some c) (year_at m) (month_at m)) (sym e) ∙ its_month k c comes) ∙ none_plus (one c.n)
+      by (no f) rest = ap₂ plus (rest (omega (arith, h, f))) (no_other k c comes j f) ∙ plus_none (one c.n)
 
-shares_added : (k : ℕ) (c : Counted) → Comes k c → together (share_at c) months ≡ share_of (λ year month. true) c
-shares_added k Nothing h = none_added months
-shares_added k (Day year month n) h = from_it k year month n h months h.3
+shares_added : (k : ℕ) (c : Option Counted) → Comes k c → together (share_at c) months ≡ share_of (λ year month. true) c
+shares_added k None h = none_added months
+shares_added k (Some c) h = from_it k c h months h.3
 
 pub season_is_months : (k : ℕ) (answers : List Answer) → InMonthOrder k answers → together (month_total answers) months ≡ season_total answers
 season_is_months k [] h = none_added months

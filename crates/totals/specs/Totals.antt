@@ -1,22 +1,21 @@
 -- The totals of a block's answers, by the month and for the season, by document 02, W5. Assumes nothing.
-use Rattle.std.specs.Prelude.{Bool, true, cond, ◌&&◌, List, [], ◌∷◌, ◌++◌, ℕ, zero, suc, ◌+◌, eqb}
+use Rattle.std.specs.Prelude.{Option, Some, None, Bool, true, cond, ◌&&◌, List, [], ◌∷◌, ◌++◌, ℕ, zero, suc, ◌+◌, eqb}
 use Rattle.answers.specs.Answers.{Role, opens, of_day, beside, role_of}
 use Rattle.answers.specs.declared.Answer.{Answer}
 use Rattle.day.specs.declared.Verdict.TheVariants as verdict
 use Rattle.totals.specs.Months.{year_at, month_at, month_of}
 use Rattle.totals.specs.declared.tally.Counted.{Counted}
-use Rattle.totals.specs.declared.tally.Counted.TheVariants.{Nothing, Day}
 use Rattle.totals.specs.declared.tally.Total.{Total}
 
 -- a day, with its figure, of a month: "the figures in the block's kind 3 and 9 answers"; "Kind 4 answers add nothing", nor do the others
-abbrev pub counted_in : Role → Counted
-counted_in (opens code) = Nothing
-counted_in (of_day year d (verdict.Figure n)) = Day year (month_of year d) n
-counted_in (of_day year d (verdict.Refused r)) = Nothing
-counted_in (of_day year d (verdict.Estimated n)) = Day year (month_of year d) n
-counted_in beside = Nothing
+abbrev pub counted_in : Role → Option Counted
+counted_in (opens code) = None
+counted_in (of_day year d (verdict.Figure n)) = Some (record { year = year; month = month_of year d; n = n })
+counted_in (of_day year d (verdict.Refused r)) = None
+counted_in (of_day year d (verdict.Estimated n)) = Some (record { year = year; month = month_of year d; n = n })
+counted_in beside = None
 
-abbrev pub counted_of : Answer → Counted
+abbrev pub counted_of : Answer → Option Counted
 counted_of a = counted_in (role_of a)
 
 -- days answered, and the sum of their figures: of none, of one, and of two totals together
@@ -30,9 +29,9 @@ abbrev pub plus : Total → Total → Total
 plus t u = record { days = t.days + u.days; sum = t.sum + u.sum }
 
 -- what is counted of the months that are chosen, of an answer and of a block's answers
-abbrev pub share_of : (ℕ → ℕ → Bool) → Counted → Total
-share_of chosen Nothing = none
-share_of chosen (Day year month n) = cond (chosen year month) (one n) none
+abbrev pub share_of : (ℕ → ℕ → Bool) → Option Counted → Total
+share_of chosen None = none
+share_of chosen (Some c) = cond (chosen c.year c.month) (one c.n) none
 
 abbrev pub total_of : (ℕ → ℕ → Bool) → List Answer → Total
 total_of chosen [] = none

@@ -12,7 +12,7 @@ fn days_by(year: u16, i: u16) -> u16
     requires { i < 13 }
     ensures { result ≡ days_by year i }
 {
-    let days = DAYS_BEFORE[i as usize];
+    let days = DAYS_BEFORE[usize::from(i)];
     if i < 2 {
         return days;
     }
@@ -23,9 +23,10 @@ fn days_by(year: u16, i: u16) -> u16
 pub fn month_of(year: u16, d: u16) -> u16
     ensures { result ≡ month_of year d }
 {
-    let mut i = 0;
-    while i < 13 && days_by(year, i) < d {
-        i = i + 1;
+    for i in 0..13 {
+        if d <= days_by(year, i) {
+            return i;
+        }
     }
-    i
+    13
 }

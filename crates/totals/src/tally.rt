@@ -9,17 +9,18 @@ use day::Verdict;
 use day::calendar::FIRST_YEAR;
 
 // Days answered and the sum of their figures, in 0.0001 inch.
-#[derive(Clone, Copy)]
+#[derive(Clone, Copy, Default)]
 pub struct Total {
     pub days: u32,
     pub sum: u64,
 }
 
-// What an answer adds: nothing, or a day of a month of a year, with its figure.
+// A day that counts: its month of its year, and its figure.
 #[derive(Clone, Copy)]
-pub enum Counted {
-    Nothing,
-    Day(u16, u16, u32),
+pub struct Counted {
+    pub year: u16,
+    pub month: u16,
+    pub n: u32,
 }
 
 // The month that is open with its total so far, and the season's.
@@ -32,84 +33,86 @@ pub struct Tally {
 }
 
 // What an answer adds. Days of kinds 3 and 9 count.
-pub fn counted_of(a: Answer) -> Counted
+pub fn counted_of(a: Answer) -> Option<Counted>
     ensures { result ≡ counted_of a }
 {
     match a {
-        Answer::Station(_) => Counted::Nothing,
-        Answer::Day(year, d, verdict) => match verdict {
-            Verdict::Figure(n) => Counted::Day(year, month_of(year, d), n),
-            Verdict::Refused(_) => Counted::Nothing,
-            Verdict::Estimated(n) => Counted::Day(year, month_of(year, d), n),
-        },
-        Answer::Crop(_, _) => Counted::Nothing,
+        Answer::Station(_) => None,
+        Answer::Day(year, d, Verdict::Figure(n) | Verdict::Estimated(n)) => Some(Counted {
+            year,
+            month: month_of(year, d),
+            n,
+        }),
+        Answer::Day(_, _, Verdict::Refused(_)) => None,
+        Answer::Crop(_, _) => None,
     }
 }
 
-// Before the first answer.
-pub fn start() -> Tally
-    ensures { result ≡ begun }
-{
-    Tally {
-        year: FIRST_YEAR,
-        month: 1,
-        total: Total { days: 0, sum: 0 },
-        season: Total { days: 0, sum: 0 },
+impl Total {
+    // The total with a day more.
+    fn with_day(self, n: u32) -> Total
+        requires { AtMost days_limit self }
+        ensures value { result ≡ plus self (one n) }
+        ensures by_index { (days : ℕ) → AtMost days self → AtMost (days + 1) result }
+    {
+        Total {
+            days: self.days + 1,
+            sum: self.sum + u64::from(n),
+        }
     }
 }
 
-// Whether a month is the one that is open.
-fn is_open(tally: Tally, year: u16, month: u16) -> bool
-    ensures { result ≡ is_month tally.year tally.month year month }
-{
-    year == tally.year && month == tally.month
-}
-
-// Whether the month that is open ends before what is counted.
-pub fn ends_month(tally: Tally, counted: Counted) -> bool
-    ensures { result ≡ begins tally counted }
-{
-    match counted {
-        Counted::Nothing => false,
-        Counted::Day(year, month, _) => !is_open(tally, year, month),
+impl Tally {
+    // Before the first answer.
+    pub fn start() -> Tally
+        ensures { result ≡ begun }
+    {
+        Tally {
+            year: FIRST_YEAR,
+            month: 1,
+            total: Total::default(),
+            season: Total::default(),
+        }
     }
-}
 
-// The total so far of a month that is open, and of another nothing.
-fn so_far(tally: Tally, year: u16, month: u16) -> Total
-    ensures { result ≡ so_far tally year month }
-{
-    if is_open(tally, year, month) {
-        return tally.total;
+    // Whether a month is the one that is open.
+    fn is_open(self, year: u16, month: u16) -> bool
+        ensures { result ≡ is_month self.year self.month year month }
+    {
+        year == self.year && month == self.month
     }
-    Total { days: 0, sum: 0 }
-}
 
-// A total with a day more.
-fn with_day(total: Total, n: u32) -> Total
-    requires { AtMost days_limit total }
-    ensures value { result ≡ plus total (one n) }
-    ensures by_index { (days : ℕ) → AtMost days total → AtMost (days + 1) result }
-{
-    Total {
-        days: total.days + 1,
-        sum: total.sum + (n as u64),
+    // Whether the month that is open ends before what is counted.
+    pub fn ends_month(self, counted: Option<Counted>) -> bool
+        ensures { result ≡ begins self counted }
+    {
+        counted.is_some_and(|c| !self.is_open(c.year, c.month))
     }
-}
 
-// The totals with what is counted.
-pub fn tallied(tally: Tally, counted: Counted) -> Tally
-    requires { Within days_limit tally }
-    ensures value { result ≡ after tally counted }
-    ensures by_index { (days : ℕ) → Within days tally → Within (days + 1) result }
-{
-    match counted {
-        Counted::Nothing => tally,
-        Counted::Day(year, month, n) => Tally {
+    // The total so far of a month that is open, and of another nothing.
+    fn so_far(self, year: u16, month: u16) -> Total
+        ensures { result ≡ so_far self year month }
+    {
+        if self.is_open(year, month) {
+            return self.total;
+        }
+        Total::default()
+    }
+
+    // The totals with what is counted.
+    pub fn tallied(self, counted: Option<Counted>) -> Tally
+        requires { Within days_limit self }
+        ensures value { result ≡ after self counted }
+        ensures by_index { (days : ℕ) → Within days self → Within (days + 1) result }
+    {
+        let Some(Counted { year, month, n }) = counted else {
+            return self;
+        };
+        Tally {
             year,
             month,
-            total: with_day(so_far(tally, year, month), n),
-            season: with_day(tally.season, n),
-        },
+            total: self.so_far(year, month).with_day(n),
+            season: self.season.with_day(n),
+        }
     }
 }

@@ -15,14 +15,14 @@ at_most i h = leb→le _ _ (entry_passes (λ k x. leb x 365) 0 offsets tt i i (z
 
 pub returns-then-i-lt2 : goal.returns-then-i-lt2
 unfolding days_by
-returns-then-i-lt2 c = simp (lt-ltb c.args.i 2 (omega arith)) (omega arith)
+returns-then-i-lt2 c = simp (c.from.ensures, lt-ltb c.args.i 2 (omega arith)) (omega arith)
 
 pub overflow_sub-result : goal.overflow_sub-result
 overflow_sub-result c = omega (arith, c.year_length.ensures, year_length_in c.args.year)
 
 pub overflow_add-result : goal.overflow_add-result
-overflow_add-result c = omega (arith, c.year_length.ensures, year_length_in c.args.year, at_most c.args.i c.requires)
+overflow_add-result c = rw c.from.ensures (omega (arith, c.year_length.ensures, year_length_in c.args.year, at_most c.args.i c.requires))
 
 pub returns : goal.returns
 unfolding days_by
-returns c = simp (le-ltb c.args.i 2 (omega arith), c.year_length.ensures)
+returns c = simp (c.from.ensures, le-ltb c.args.i 2 (omega arith), c.year_length.ensures)

@@ -23,17 +23,16 @@ module _ (year d i : ℕ) (inside : i < 13) where
 
 pub loop-i-init : goal.loop-i-init
 unfolding month_of
-loop-i-init c = (omega arith, refl)
+loop-i-init c = refl
 
 pub loop-i-preserved : goal.loop-i-preserved
-loop-i-preserved c =
-    (omega arith, sym (goes_on c.args.year c.args.d c.loop-i.i c.loop-i-test.true (omega arith)) ∙ c.loop-i.invariant.1)
+loop-i-preserved c = sym (goes_on c.args.year c.args.d c.loop-i.i c.loop-i-test.true (omega arith)) ∙ c.loop-i.invariant
 
-pub returns-else-days_by-d : goal.returns-else-days_by-d
-returns-else-days_by-d c = sym (ends c.args.year c.args.d c.loop-i.i c.loop-i-test.true (omega arith)) ∙ c.loop-i.invariant.1
+pub returns-then-d-days_by : goal.returns-then-d-days_by
+returns-then-d-days_by c = sym (ends c.args.year c.args.d c.loop-i.i c.loop-i-test.true (omega arith)) ∙ c.loop-i.invariant
 
-pub returns-after-loop-i : goal.returns-after-loop-i
+pub returns : goal.returns
 unfolding first
-returns-after-loop-i c =
-    let e : c.loop-i.i ≡ 13 = omega (arith, c.loop-i.invariant.0) in
-    e ∙ (rw e at c.loop-i.invariant.1)
+returns c =
+    let e : c.loop-i.i ≡ 13 = omega arith in
+    rw e at c.loop-i.invariant

@@ -1,6 +1,6 @@
--- The loop of `totals::months::month_of`. The invariant: the search goes on from i. The measure is what is left of the table. Assumes nothing.
+-- The loop of `totals::months::month_of`. The invariant: the search goes on from i. Assumes nothing.
 use mathlib.Core.Path.{◌≡◌}
-use Prim.Native.Nat.{ℕ, ◌-◌, ◌≤◌}
+use Prim.Native.Nat.{ℕ, ◌-◌}
 use lib.Dec.{leb}
 use Rattle.tables.specs.Values.{first}
 use Rattle.totals.specs.Months.{days_by, month_of}
@@ -11,7 +11,4 @@ abbrev pub from : ℕ → ℕ → ℕ → ℕ
 from year d i = first (λ (k : ℕ). leb d (days_by year k)) (13 - i) i
 
 abbrev pub invariant-loop-i : goal.invariant-loop-i
-invariant-loop-i l = (l.i ≤ 13) × (from l.year l.d l.i ≡ month_of l.year l.d)
-
-abbrev pub decreases-loop-i : goal.decreases-loop-i
-decreases-loop-i l = 13 - l.i
+invariant-loop-i l = from l.year l.d l.i ≡ month_of l.year l.d
