@@ -1,11 +1,10 @@
 -- A text that a pen writes behind another: where both fit, the first fits (`front`) and the second behind it (`behind`), and both stand there (`then`).
 -- Assumes nothing.
-use mathlib.Core.Path.{◌≡◌, refl, ap, ◌∙◌}
+use mathlib.Core.Path.{◌≡◌, ◌∙◌}
 use mathlib.Core.List.{List, ◌++◌}
-use Prim.Native.Nat.{ℕ, ◌+◌, ◌≤◌}
+use Prim.Native.Nat.{ℕ}
 use native.Mathlib.Omega.{arith}
 use lib.ListN.{length, length-append}
-use Rattle.lines.specs.Written.{Written}
 use Rattle.lines.specs.Pen.{Fits, Wrote}
 use Rattle.lines.specs.declared.pen.Pen.{Pen}
 use Rattle.lines.proofs.Written as written

@@ -1,6 +1,7 @@
 -- What the answers of a log print, one after another: the first answer's line, and then what those behind it print (`prints`); a block's own answers
 -- (`own_front`), and how they stand and are ordered from one to the next (`InBlock`, `next_in_block`). Assumes nothing.
 use mathlib.Core.Path.{◌≡◌, refl, sym, ap, ◌∙◌}
+use Rattle.std.specs.Prelude.{Option, Some, None}
 use mathlib.Core.List.{List, [], ◌∷◌, ◌++◌, append_assoc, append-nil}
 use Prim.Native.Nat.{ℕ, ◌+◌}
 use native.Mathlib.Omega.{arith}
@@ -14,8 +15,7 @@ use Rattle.totals.specs.Tally.{reached, InMonthOrder}
 use Rattle.totals.specs.Totals.{counted_of}
 use Rattle.text.specs.Report.{about_block, own_from, own, block_lines, lines_of, answer_lines}
 use Rattle.text.specs.Walk.{Holds, BlockOrdered, Stands, open_after, about_open, line_in, printed}
-use Rattle.text.specs.declared.answer_walk.Open.{Open}
-use Rattle.text.specs.declared.answer_walk.Open.TheVariants.{NoBlock, In}
+use Rattle.text.specs.declared.answer_walk.Block.{Block}
 
 abbrev pub seen_after : List Answer → Role → Answer → List Answer
 seen_after seen (opens code) a = []
@@ -23,24 +23,24 @@ seen_after seen (of_day year d verdict) a = seen ++ a ∷ []
 seen_after seen beside a = seen ++ a ∷ []
 
 -- what the block that is open has yet to print, with its answers `more`; and what all the answers from there on print
-abbrev pub open_lines : Open → List Answer → List Answer → List ℕ
-open_lines NoBlock seen more = []
-open_lines (In b) seen more = answer_lines b.code more ++ about_block b.code (seen ++ more)
+abbrev pub open_lines : Option Block → List Answer → List Answer → List ℕ
+open_lines None seen more = []
+open_lines (Some b) seen more = answer_lines b.code more ++ about_block b.code (seen ++ more)
 
-abbrev pub lines_from : Open → List Answer → List Answer → List ℕ
+abbrev pub lines_from : Option Block → List Answer → List Answer → List ℕ
 lines_from block seen left = open_lines block seen (own left) ++ lines_of left
 
 -- what the open block prints where it ends, and with an answer more
-block_ends : (block : Open) (seen : List Answer) → open_lines block seen [] ≡ about_open block seen
-block_ends NoBlock seen = refl
-block_ends (In b) seen = ap (about_block b.code) (append-nil seen)
+block_ends : (block : Option Block) (seen : List Answer) → open_lines block seen [] ≡ about_open block seen
+block_ends None seen = refl
+block_ends (Some b) seen = ap (about_block b.code) (append-nil seen)
 
-line_first : (block : Open) (seen : List Answer) (a : Answer) (more : List Answer) (later : List ℕ)
+line_first : (block : Option Block) (seen : List Answer) (a : Answer) (more : List Answer) (later : List ℕ)
     → open_lines block seen (a ∷ more) ++ later ≡ line_in block a ++ (open_lines block (seen ++ a ∷ []) more ++ later)
-line_first NoBlock seen a more later = refl
-line_first (In b) seen a more later = simp append_assoc
+line_first None seen a more later = refl
+line_first (Some b) seen a more later = simp append_assoc
 
-pub prints : (block : Open) (seen : List Answer) (a : Answer) (next : ℕ) (l : List Answer)
+pub prints : (block : Option Block) (seen : List Answer) (a : Answer) (next : ℕ) (l : List Answer)
     → lines_from block seen (a ∷ l) ≡ printed block seen (role_of a) a ++ lines_from (open_after block (role_of a) next) (seen_after seen (role_of a) a) l
 prints block seen a next l = by (role_of a)
   where
@@ -51,7 +51,7 @@ prints block seen a next l = by (role_of a)
     by beside = line_first block seen a (own l) (lines_of l)
 
 -- behind the last answer
-pub prints_last : (block : Open) (seen : List Answer) → lines_from block seen [] ≡ about_open block seen
+pub prints_last : (block : Option Block) (seen : List Answer) → lines_from block seen [] ≡ about_open block seen
 prints_last block seen = append-nil (open_lines block seen []) ∙ block_ends block seen
 
 -- ---- the block's own answers
@@ -69,17 +69,17 @@ own_front (a ∷ l) = by (role_of a) (own_front l)
 -- ---- the block that is open
 
 -- what it has had up to the index `at`, and that it is in date order with what it has yet to have, the answers `more`
-abbrev pub InBlock : List ℕ → ℕ → Open → List Answer → List Answer → Type 0
-InBlock s at NoBlock seen more = Unit {0}
-InBlock s at (In b) seen more = Holds s b.from at seen × InMonthOrder 0 (seen ++ more)
+abbrev pub InBlock : List ℕ → ℕ → Option Block → List Answer → List Answer → Type 0
+InBlock s at None seen more = Unit {0}
+InBlock s at (Some b) seen more = Holds s b.from at seen × InMonthOrder 0 (seen ++ more)
 
 front_ordered : (k : ℕ) (l rest : List Answer) → InMonthOrder k (l ++ rest) → InMonthOrder k l
 front_ordered k [] rest h = tt
 front_ordered k (a ∷ l) rest h = (h.0, front_ordered (reached k (counted_of a)) l rest h.1)
 
-pub block_stands : (s : List ℕ) (at : ℕ) (block : Open) (seen more : List Answer) → InBlock s at block seen more → Stands s at block seen
-block_stands s at NoBlock seen more w = tt
-block_stands s at (In b) seen more w = (w.0, front_ordered 0 seen more w.1)
+pub block_stands : (s : List ℕ) (at : ℕ) (block : Option Block) (seen more : List Answer) → InBlock s at block seen more → Stands s at block seen
+block_stands s at None seen more w = tt
+block_stands s at (Some b) seen more w = (w.0, front_ordered 0 seen more w.1)
 
 -- an answer more stands behind those that the block has had
 held_more : {s : List ℕ} {from at : ℕ} {seen : List Answer} (a : Answer) → Holds s from at seen → StandsAt s at a → Holds s from (at + length (answer_bytes a)) (seen ++ a ∷ [])
@@ -100,11 +100,11 @@ module _ (s : List ℕ) (at : ℕ) (seen : List Answer) (a : Answer) (there : St
   abbrev behind : ℕ
   behind = at + length (answer_bytes a)
 
-  block_more : (block : Open) (more : List Answer) → InBlock s at block seen (a ∷ more) → InBlock s behind block (seen ++ a ∷ []) more
-  block_more NoBlock more w = tt
-  block_more (In b) more w = (held_more a w.0 there, rw append_assoc w.1)
+  block_more : (block : Option Block) (more : List Answer) → InBlock s at block seen (a ∷ more) → InBlock s behind block (seen ++ a ∷ []) more
+  block_more None more w = tt
+  block_more (Some b) more w = (held_more a w.0 there, rw append_assoc w.1)
 
-  pub next_in_block : (block : Open) (left : List Answer) → BlockOrdered (role_of a) left → InBlock s at block seen (own (a ∷ left))
+  pub next_in_block : (block : Option Block) (left : List Answer) → BlockOrdered (role_of a) left → InBlock s at block seen (own (a ∷ left))
       → InBlock s behind (open_after block (role_of a) behind) (seen_after seen (role_of a) a) (own left)
   next_in_block block left = by (role_of a)
     where

@@ -1,6 +1,7 @@
 -- The answers to a log have the months of each block in date order, since the dates of a block's answered days are (`answers_ordered`). Assumes nothing.
 use mathlib.Core.Path.{◌≡◌, refl, sym, ap, subst}
 use mathlib.Core.Bool.{true}
+use Rattle.std.specs.Prelude.{Some}
 use mathlib.Core.List.{List, [], ◌∷◌}
 use mathlib.Core.Logic.{⊎_elim}
 use Prim.Native.Nat.{ℕ, ◌≤◌, ◌<◌}
@@ -15,7 +16,6 @@ use Rattle.station_log.specs.Log.{answers_to}
 use Rattle.day.proofs.Dates.{date_tells}
 use Rattle.totals.specs.Months.{month_of, year_at, month_at, months}
 use Rattle.totals.specs.Tally.{month_number, Comes, InMonthOrder}
-use Rattle.totals.specs.declared.tally.Counted.TheVariants.{Day}
 use Rattle.totals.proofs.Calendar.{month_range, months_ascend}
 use Rattle.text.specs.Report.{own_from, own}
 use Rattle.text.specs.Walk.{BlockOrdered, Ordered}
@@ -47,7 +47,7 @@ date_listed year d date =
     let month = month_range year d date in
     (omega (arith, told, month), omega (arith, told, month), omega (arith, told, month))
 
-comes : (k last year d n : ℕ) → NotBefore k last → Next last year d → Comes k (Day year (month_of year d) n)
+comes : (k last year d n : ℕ) → NotBefore k last → Next last year d → Comes k (Some (record { year = year; month = month_of year d; n = n }))
 unfolding NotBefore
 comes k last year d n behind next =
     let listed = date_listed year d next.0 in (listed.0, listed.1, behind year d next, listed.2)

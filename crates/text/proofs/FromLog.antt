@@ -11,14 +11,14 @@ use Rattle.answers.specs.Answers.{bytes_of}
 use Rattle.lines.specs.Text.{header}
 use Rattle.station_log.specs.Log.{Outcome, longest, answers_to, reading_of, settled, outcome_of, leaves, buffer_after, Read}
 use Rattle.station_log.specs.Parts.{longest_answers}
-use Rattle.std.specs.Prelude.{Ok, Err}
+use Rattle.std.specs.Prelude.{Result, Ok, Err}
 use Rattle.station_log.proofs.OutcomeSize.{Small, outcome_small, written_size}
 use Rattle.records.proofs.Choice.{by_cond}
 use Rattle.promises.specs.Demand.{AnsweredLog}
 use Rattle.text.specs.Report.{lines_of, text_of, report_of, Prints, ReportOwed}
 use Rattle.text.proofs.SmallAnswers.{AreBytes}
 use Rattle.text.specs.Walk.{longest_report, Holds}
-use Rattle.text.specs.declared.Printed.{Printed}
+use Rattle.text.specs.declared.TooShort.{TooShort}
 use Rattle.text.proofs.LongEnough.{text_most}
 
 -- a log that is read to its end is no longer than a log may be
@@ -52,14 +52,14 @@ module _ {s buffer after : List ℕ} where
       }
 
   -- what is printed of the outcome is the report
-  pub report_text : {o : Outcome} {text-before text-after : List ℕ} {r : Printed} → Read s buffer o after
+  pub report_text : {o : Outcome} {text-before text-after : List ℕ} {r : Result ℕ TooShort} → Read s buffer o after
       → Prints (text_of o (answers_to s)) text-before r text-after → Prints (report_of s (length buffer)) text-before r text-after
   unfolding report_of
   report_text {text-before = text-before} {text-after = text-after} {r = r} h p =
       subst (λ (o : Outcome). Prints (text_of o (answers_to s)) text-before r text-after) h.outcome p
 
 -- and of a log that the rules answer it is no line of a refusal
-pub with_report : (s buffer : List ℕ) {text-before text-after : List ℕ} {r : Printed} → Prints (report_of s (length buffer)) text-before r text-after
+pub with_report : (s buffer : List ℕ) {text-before text-after : List ℕ} {r : Result ℕ TooShort} → Prints (report_of s (length buffer)) text-before r text-after
     → ReportOwed s buffer text-before r text-after
 unfolding ReportOwed AnsweredLog report_of
 with_report s buffer {text-before} {text-after} {r} p log =

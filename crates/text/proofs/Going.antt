@@ -1,9 +1,8 @@
 -- The walk over the answers of a log that has come to an index: what the next answer makes of it (`one_more`), and what it is at the end
 -- (`all_laid`). Of what an answer prints it is known that all the answers left print its own line and then what those behind it print. None of these laws
--- names a kind of answer. Assumes nothing.
+-- names a kind of answer, and none what a page is. Assumes nothing.
 use mathlib.Core.Path.{◌≡◌, refl, sym, ap, ◌∙◌, subst}
-use mathlib.Core.Bool.{Bool, true}
-use mathlib.Core.List.{List, [], ◌∷◌, ◌++◌, append_assoc, append-nil}
+use mathlib.Core.List.{List, [], ◌∷◌, ◌++◌, append_assoc}
 use Prim.Native.Nat.{ℕ, ◌+◌, ◌≤◌, ◌<◌}
 use native.Mathlib.Omega.{arith}
 use lib.ListN.{length, drop, length-append}
@@ -12,11 +11,11 @@ use Rattle.answers.specs.Answers.{answer_bytes, bytes_of}
 use Rattle.answers.specs.ReadBack.{StandsAt}
 use Rattle.answers.specs.declared.Answer.{Answer}
 use Rattle.answers.proofs.Roles.{some_bytes}
-use Rattle.text.specs.Walk.{Holds, Room, Laid}
-use Rattle.text.proofs.Laid.{laid_none, then_laid}
+use Rattle.text.specs.Page.{PageLaws}
+use Rattle.text.specs.Walk.{Holds}
 
--- Of the lines `all`, those `done` are laid; the answers `left`, from the index `at` on, print the others. The buffer was `before`.
-pub record Going (s : List ℕ) (n : ℕ) (writes : Bool) (before : List ℕ) (start : ℕ) (text : List ℕ) (at to : ℕ) (print : List Answer → List ℕ) (all : List ℕ)
+-- Of the lines `all`, those `done` are laid on the page that was `start`; the answers `left`, from the index `at` on, print the others.
+pub record Going {P : Type 0} (Laid : P → List ℕ → P → Type 0) (s : List ℕ) (n : ℕ) (start : P) (at : ℕ) (page : P) (print : List Answer → List ℕ) (all : List ℕ)
     : Type 0 where
   pub done : List ℕ
   pub left : List Answer
@@ -24,23 +23,26 @@ pub record Going (s : List ℕ) (n : ℕ) (writes : Bool) (before : List ℕ) (s
   pub lines : all ≡ done ++ print left
   pub stands : drop at s ≡ bytes_of left ++ rest
   pub size : at + length (bytes_of left) ≡ n
-  pub laid : Laid writes before start done text to
+  pub laid : Laid start done page
 
-module _ {s : List ℕ} {n : ℕ} {writes : Bool} {before : List ℕ} {start : ℕ} where
-  unfoldable pub none_gone : {from : ℕ} {print : List Answer → List ℕ} {answers : List Answer} → Holds s from n answers
-      → Going s n writes before start before from start print (print answers)
-  none_gone {answers = answers} h =
-      record { done = []; left = answers; rest = h.rest; lines = refl; stands = h.bytes; size = h.size; laid = laid_none }
+module _ {P : Type 0} {Room : P → List ℕ → Type 0} {Laid : P → List ℕ → P → Type 0} (laws : PageLaws Room Laid) {s : List ℕ} {n : ℕ} {start : P} where
+  unfoldable pub none_gone : {from : ℕ} {print : List Answer → List ℕ} {answers : List Answer} → Room start [] → Holds s from n answers
+      → Going Laid s n start from start print (print answers)
+  none_gone {print = print} {answers = answers} fits h =
+      record {
+        done = [];
+        left = answers;
+        rest = h.rest;
+        lines = refl;
+        stands = h.bytes;
+        size = h.size;
+        laid = laws.none start fits;
+      }
 
-  module _ {text : List ℕ} {at to : ℕ} {print : List Answer → List ℕ} {all : List ℕ} (g : Going s n writes before start text at to print all) where
+  module _ {at : ℕ} {page : P} {print : List Answer → List ℕ} {all : List ℕ} (g : Going Laid s n start at page print all) where
     -- where there is room for all the lines, there is for the next of them
-    part_room : (buffer line others : List ℕ) → all ≡ g.done ++ (line ++ others) → Room writes buffer start all → Room writes buffer to line
-    part_room buffer line others e fits =
-        let size = length-append g.done (line ++ others) in
-        let parts = length-append line others in (
-          omega (arith, fits.0, g.laid.behind, ap length e, size, parts),
-          λ w. omega (arith, fits.1 w, g.laid.behind, ap length e, size, parts),
-        )
+    part_room : (line others : List ℕ) → all ≡ g.done ++ (line ++ others) → Room start all → Room page line
+    part_room line others e fits = laws.front page line others (laws.behind start page g.done (line ++ others) (subst (Room start) e fits) g.laid)
 
     -- the next answer, with those behind it
     record Next : Type 0 where
@@ -72,9 +74,6 @@ module _ {s : List ℕ} {n : ℕ} {writes : Bool} {before : List ℕ} {start : �
       standing : StandsAt s at a
       standing = record { rest = bytes_of later ++ g.rest; bytes = stands_next }
 
-      pub stands_there : (b : Answer) × StandsAt s at b
-      stands_there = (a, standing)
-
       -- an answer that is the one that stands there, its line, and what those behind it print
       module _ {r : Answer} (is : (b : Answer) → StandsAt s at b → r ≡ b) where
         same : a ≡ r
@@ -90,12 +89,12 @@ module _ {s : List ℕ} {n : ℕ} {writes : Bool} {before : List ℕ} {start : �
           lines_next : all ≡ g.done ++ (line ++ onward later)
           lines_next = g.lines ∙ ap (λ (l : List Answer). g.done ++ print l) ((there h).is ∙ ap (λ (b : Answer). b ∷ later) same) ∙ ap (λ (l : List ℕ). g.done ++ l) (prints later)
 
-          pub room : (buffer : List ℕ) → Room writes buffer start all → Room writes buffer to line
-          room buffer fits = part_room buffer line (onward later) lines_next fits
+          pub room : Room start all → Room page line
+          room fits = part_room line (onward later) lines_next fits
 
-          pub one_more : {after : List ℕ} {next : ℕ} → (writes ≡ true → to ≤ length before) → Laid writes text to line after next
-              → (more : Going s n writes before start after (at + length (answer_bytes r)) next onward all) × (g.left ≡ r ∷ more.left)
-          one_more {after} {next} fits w = (
+          pub one_more : {after : P} → Laid page line after
+              → (more : Going Laid s n start (at + length (answer_bytes r)) after onward all) × (g.left ≡ r ∷ more.left)
+          one_more {after} w = (
             record {
               done = g.done ++ line;
               left = later;
@@ -106,7 +105,7 @@ module _ {s : List ℕ} {n : ℕ} {writes : Bool} {before : List ℕ} {start : �
                   ∙ sym (drop-drop (length (answer_bytes a)) at s) ∙ ap (drop (length (answer_bytes a))) stands_next
                   ∙ drop_at (answer_bytes a) (bytes_of later ++ g.rest) (length (answer_bytes a)) refl;
               size = omega (arith, size_next, ap (λ (b : Answer). length (answer_bytes b)) same);
-              laid = then_laid (λ e. omega (arith, fits e, g.laid.behind)) g.laid w;
+              laid = laws.then start page after g.done line g.laid w;
             },
             (there h).is ∙ ap (λ (b : Answer). b ∷ later) same,
           )
@@ -120,10 +119,8 @@ module _ {s : List ℕ} {n : ℕ} {writes : Bool} {before : List ℕ} {start : �
           by [] e = refl
           by (b ∷ l) e = absurd (omega (arith, e, h, some_bytes b, length-append (answer_bytes b) (bytes_of l)))
 
-      pub room_last : (buffer : List ℕ) → Room writes buffer start all → Room writes buffer to (print [])
-      room_last buffer fits = part_room buffer (print []) [] (lines_last ∙ ap (λ (l : List ℕ). g.done ++ l) (sym (append-nil (print [])))) fits
+      pub room_last : Room start all → Room page (print [])
+      room_last fits = laws.behind start page g.done (print []) (subst (Room start) lines_last fits) g.laid
 
-      pub all_laid : {after : List ℕ} {next : ℕ} → (writes ≡ true → to ≤ length before) → Laid writes text to (print []) after next
-          → Laid writes before start all after next
-      all_laid {after} {next} fits w = subst (λ (l : List ℕ). Laid writes before start l after next) (sym lines_last)
-          (then_laid (λ e. omega (arith, fits e, g.laid.behind)) g.laid w)
+      pub all_laid : {after : P} → Laid page (print []) after → Laid start all after
+      all_laid {after} w = subst (λ (l : List ℕ). Laid start l after) (sym lines_last) (laws.then start page after g.done (print []) g.laid w)

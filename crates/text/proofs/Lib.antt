@@ -1,6 +1,6 @@
 -- The lemmas that belong to no one function.
 pub mod Laws
-pub mod Laid
+pub mod Behind
 pub mod Blocks
 pub mod Going
 pub mod Walked

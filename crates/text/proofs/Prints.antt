@@ -1,49 +1,63 @@
 -- From a text that is written from the front, or found too long, to what is owed for it. Assumes nothing.
-use mathlib.Core.Path.{◌≡◌, refl, sym, ap, ◌∙◌, subst}
-use mathlib.Core.Bool.{Bool, true, false, cond}
+use mathlib.Core.Path.{◌≡◌, refl, sym, ap, ◌∙◌}
+use mathlib.Core.Bool.{Bool, cond}
+use Rattle.std.specs.Prelude.{Result, Ok, Err, IsOk}
 use mathlib.Core.List.{List, [], ◌∷◌, ◌++◌}
 use Prim.Native.Nat.{ℕ, ◌+◌, ◌≤◌, ◌<◌}
 use native.Mathlib.Omega.{arith}
 use borrow.Author.Tests.{lt-ltb, le-ltb}
 use lib.Dec.{ltb}
-use lib.ListN.{length, drop, length-append, length-drop}
+use lib.ListN.{length, drop, take, length-append, length-drop}
+use Rattle.std.proofs.Math.Seq.{take-append_seam}
 use Rattle.records.proofs.Choice.{by_cond}
 use Rattle.answers.proofs.Overwriting.{laid_front}
 use Rattle.text.specs.Report.{Prints, printed_in, text_over}
-use Rattle.lines.specs.Text.{header}
-use Rattle.text.specs.Walk.{Laid}
 use Rattle.lines.specs.Written.{Written, AtFront}
-use Rattle.text.specs.declared.Printed.{Printed}
-use Rattle.text.specs.declared.Printed.TheVariants as printed
-use Rattle.lines.proofs.Written.{then}
+use Rattle.text.specs.declared.TooShort.{TooShort}
+
+-- what is told where a buffer needs so many bytes
+abbrev needs : ℕ → Result ℕ TooShort
+needs n = Err (record { needed = n })
 
 -- what is told, and what is left of the buffer, by whether the buffer is too short
 module _ (text before : List ℕ) where
-  abbrev told_by : Bool → Printed
-  told_by short = cond short (printed.Needs (length text)) (printed.Written (length text))
+  abbrev told_by : Bool → Result ℕ TooShort
+  told_by short = cond short (Err (record { needed = length text })) (Ok (length text))
 
   abbrev left_by : Bool → List ℕ
   left_by short = cond short before (text ++ drop (length text) before)
 
 module _ {text before : List ℕ} {n : ℕ} where
-  pub too_short : {after : List ℕ} → n ≡ length text → length after < n → after ≡ before → Prints text before (printed.Needs n) after
+  pub too_short : {after : List ℕ} → n ≡ length text → length after < n → after ≡ before → Prints text before (Err (record { needed = n })) after
   too_short e h same =
       let test = lt-ltb (length before) (length text) (omega (arith, e, h, ap length same)) in
-      record { told = ap printed.Needs e ∙ ap (told_by text before) (sym test); bytes = same ∙ ap (left_by text before) (sym test) }
+      record { told = ap needs e ∙ ap (told_by text before) (sym test); bytes = same ∙ ap (left_by text before) (sym test) }
 
-  pub written_whole : {after : List ℕ} → Written before 0 text after n → Prints text before (printed.Written n) after
+  pub written_whole : {after : List ℕ} → Written before 0 text after n → Prints text before (Ok n) after
   written_whole w =
       let test = le-ltb (length before) (length text) (omega (arith, w.room)) in
       record {
-        told = ap printed.Written (omega (arith, w.behind)) ∙ ap (told_by text before) (sym test);
+        told = ap Ok (omega (arith, w.behind)) ∙ ap (told_by text before) (sym test);
         bytes = w.bytes ∙ laid_front before text ∙ ap (left_by text before) (sym test);
       }
 
+-- the bytes of a line that stands in a buffer of its own, copied to the front
+pub copied_whole : {text before own-before own bytes : List ℕ} {n : ℕ} → AtFront own-before text own n → n ≤ length before → bytes ≡ take n own
+    → Prints text before (Ok n) (bytes ++ drop n before)
+copied_whole {text} {before} {own-before} {own} {bytes} {n} line fits e =
+    let test = le-ltb (length before) (length text) (omega (arith, line.size, fits)) in
+    let whole : bytes ≡ text =
+    e ∙ ap (λ (k : ℕ). take k own) line.size ∙ ap (take (length text)) line.bytes ∙ take-append_seam text (drop (length text) own-before) in
+    record {
+      told = ap Ok line.size ∙ ap (told_by text before) (sym test);
+      bytes = ap (λ (k : ℕ). bytes ++ drop k before) line.size ∙ ap (λ (l : List ℕ). l ++ drop (length text) before) whole ∙ ap (left_by text before) (sym test);
+    }
+
 -- a buffer of just the length is long enough, and one of a byte less is not
-pub just_enough : (text : List ℕ) → printed_in (length text) text ≡ printed.Written (length text)
+pub just_enough : (text : List ℕ) → printed_in (length text) text ≡ Ok (length text)
 just_enough text = ap (told_by text text) (le-ltb (length text) (length text) (omega arith))
 
-pub one_less : (text : List ℕ) (size : ℕ) → size + 1 ≡ length text → printed_in size text ≡ printed.Needs (length text)
+pub one_less : (text : List ℕ) (size : ℕ) → size + 1 ≡ length text → printed_in size text ≡ Err (record { needed = length text })
 one_less text size e = ap (told_by text text) (lt-ltb size (length text) (omega (arith, e)))
 
 -- the text stands at the front and later bytes are as they were; so is every byte of a buffer that is too short
@@ -52,24 +66,22 @@ laid = (refl, refl)
 
 -- ---- the number that is returned
 
-abbrev pub size_in : Printed → ℕ
-size_in (printed.Written n) = n
-size_in (printed.Needs n) = n
+abbrev pub size_in : Result ℕ TooShort → ℕ
+size_in (Ok n) = n
+size_in (Err short) = short.needed
 
 -- written or needed, it is the text's length
-pub printed_size : {text before after : List ℕ} {r : Printed} → Prints text before r after → size_in r ≡ length text
+pub printed_size : {text before after : List ℕ} {r : Result ℕ TooShort} → Prints text before r after → size_in r ≡ length text
 printed_size {text} {before} p =
     ap size_in p.told ∙ by_cond (λ r. size_in r ≡ length text) (ltb (length before) (length text)) (λ e. refl) (λ e. refl)
 
 -- ---- a buffer that is long enough
 
-module _ {text before after : List ℕ} {n : ℕ} (fits : length text ≤ length before) where
-  pub never_needs : Prints text before (printed.Needs n) after → ⊥
-  never_needs p =
-      let is = p.told ∙ ap (told_by text before) (le-ltb (length before) (length text) fits) in
-      let z : ◌≡◌ {A = ℕ} 0 1 = cc in omega arith
+module _ {text before after : List ℕ} (fits : length text ≤ length before) where
+  pub never_short : {r : Result ℕ TooShort} → Prints text before r after → IsOk r
+  never_short p = rw (p.told, le-ltb (length before) (length text) fits) refl
 
-  pub stands_in_front : Prints text before (printed.Written n) after → AtFront before text after n
+  pub stands_in_front : {n : ℕ} → Prints text before (Ok n) after → AtFront before text after n
   stands_in_front p =
       let test = le-ltb (length before) (length text) fits in
       let is = p.told ∙ ap (told_by text before) test in
@@ -79,16 +91,3 @@ module _ {text before after : List ℕ} {n : ℕ} (fits : length text ≤ length
         bytes = bytes;
         long = omega (arith, ap length bytes, length-append text (drop (length text) before), length-drop (length text) before);
       }
-
--- ---- the header and the lines behind it
-
-module _ {before lines : List ℕ} where
-  -- by a pass that counts
-  pub counted : {after : List ℕ} {above n : ℕ} → above ≡ length header → Laid false before above lines after n → n ≡ length (header ++ lines)
-  counted e w = omega (arith, e, w.behind, length-append header lines)
-
-  -- by a pass that writes
-  pub header_then : {first between after : List ℕ} {start n : ℕ} → first ≡ before → Written first 0 header between start
-      → Laid true between start lines after n → start + length lines ≤ length between → Written before 0 (header ++ lines) after n
-  header_then {between = between} {start = start} same v w room =
-      then (subst (λ (l : List ℕ). Written l 0 header between start) same v) (record { room = room; behind = w.behind; bytes = w.bytes })

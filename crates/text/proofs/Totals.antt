@@ -1,6 +1,7 @@
 -- What is owed of a report's totals is met by every log (`totals_owed`). Assumes nothing.
 use mathlib.Core.Path.{◌≡◌, sym, ap, ◌∙◌, subst, subst₂}
 use mathlib.Core.Bool.{Bool, true, cond}
+use Rattle.std.specs.Prelude.{Some}
 use mathlib.Core.List.{List, [], ◌∷◌, ◌++◌, append_assoc}
 use mathlib.Core.Logic.{◌⊎◌, ⊎_elim}
 use Prim.Native.Nat.{ℕ}
@@ -16,7 +17,6 @@ use Rattle.station_log.specs.Log.{answers_to}
 use Rattle.totals.specs.Months.{month_of}
 use Rattle.totals.specs.Tally.{month_number, InMonthOrder}
 use Rattle.totals.specs.Totals.{none, one, counted_of, share_of, is_month}
-use Rattle.totals.specs.declared.tally.Counted.TheVariants.{Day}
 use Rattle.totals.proofs.Calendar.{in_one_month}
 use Rattle.totals.proofs.Shares.{season_is_months, same_month, other_month}
 use Rattle.text.specs.Report.{answer_lines, about_block, own, block_lines, lines_of}
@@ -45,7 +45,7 @@ block_ordered (a ∷ before) rest code h = block_ordered before rest code h.1
 -- ---- an answered day
 
 module _ (year d : ℕ) (v : Verdict) (n : ℕ) (kind : (v ≡ Figure n) ⊎ (v ≡ Estimated n)) where
-  counted : counted_of (answer.Day year d v) ≡ Day year (month_of year d) n
+  counted : counted_of (answer.Day year d v) ≡ Some (record { year = year; month = month_of year d; n = n })
   counted =
       ⊎_elim (λ (e : v ≡ Figure n). ap (λ (w : Verdict). counted_of (answer.Day year d w)) e)
       (λ (e : v ≡ Estimated n). ap (λ (w : Verdict). counted_of (answer.Day year d w)) e) kind

@@ -1,6 +1,6 @@
 -- The report of a log, from the log's bytes to the last newline, by document 01, "Proved days and edges"; and what is left of a buffer that it is
 -- written to. Assumes nothing.
-use Rattle.std.specs.Prelude.{cond, List, [], ◌∷◌, ◌++◌, ◌≡◌, ℕ, ltb, eqb, length, drop, Ok, Err}
+use Rattle.std.specs.Prelude.{Result, cond, List, [], ◌∷◌, ◌++◌, ◌≡◌, ℕ, ltb, eqb, length, drop, Ok, Err}
 use Rattle.answers.specs.Answers.{Role, opens, of_day, beside, role_of, bytes_of}
 use Rattle.day.specs.declared.Code.{Code}
 use Rattle.station_log.specs.Log.{number_of_fault, Outcome, outcome_of, answers_to}
@@ -11,8 +11,7 @@ use Rattle.promises.specs.Demand.{AnsweredLog}
 use Rattle.totals.specs.Months.{months}
 use Rattle.totals.specs.Totals.{month_total, season_total, each_month}
 use Rattle.totals.specs.declared.tally.Total.{Total}
-use Rattle.text.specs.declared.Printed.{Printed}
-use Rattle.text.specs.declared.Printed.TheVariants.{Written, Needs}
+use Rattle.text.specs.declared.TooShort.{TooShort}
 
 -- "An answer kind that a request adds prints its fields after the kind in the same way, figures in inches": a day has its line, with its block's code,
 -- and a crop's figure has one. "A station prints no line of its own".
@@ -71,21 +70,21 @@ report_of s size = text_of (outcome_of s size) (answers_to s)
 -- ---- a lent text buffer
 
 -- the length written, or the length needed where the buffer has fewer bytes
-abbrev pub printed_in : ℕ → List ℕ → Printed
-printed_in size text = cond (ltb size (length text)) (Needs (length text)) (Written (length text))
+abbrev pub printed_in : ℕ → List ℕ → Result ℕ TooShort
+printed_in size text = cond (ltb size (length text)) (Err (record { needed = length text })) (Ok (length text))
 
 -- the text from the front, later bytes as they were; a buffer that is too short is as it was
 abbrev pub text_over : List ℕ → List ℕ → List ℕ
 text_over before text = cond (ltb (length before) (length text)) before (text ++ drop (length text) before)
 
 -- what a writer of a text owes: the number that it returns, and each byte of the buffer afterwards
-pub record Prints (text before : List ℕ) (returned : Printed) (after : List ℕ) : Type 0 where
+pub record Prints (text before : List ℕ) (returned : Result ℕ TooShort) (after : List ℕ) : Type 0 where
   pub told : returned ≡ printed_in (length before) text
   pub bytes : after ≡ text_over before text
 
 -- "An answered day gets a figure and no refusal": of a log that the rules answer the text that is printed, or found too long, is the report, and no line of
 -- a refusal
-unfoldable pub ReportOwed : List ℕ → List ℕ → List ℕ → Printed → List ℕ → Type 0
+unfoldable pub ReportOwed : List ℕ → List ℕ → List ℕ → Result ℕ TooShort → List ℕ → Type 0
 ReportOwed s buffer before returned after = AnsweredLog s buffer → Prints (header ++ lines_of (answers_to s)) before returned after
 
 -- the report of a log, with room for its answers: 12 does not hold

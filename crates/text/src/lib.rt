@@ -4,25 +4,32 @@
 ghost use Rattle.std.specs.Prelude.{List, ◌++◌, ◌≡◌, ◌≤◌, length};
 ghost use Rattle.promises.specs.CropFigures.{CropFiguresOwed};
 ghost use Rattle.promises.specs.Demand.{FiguresOwed};
-ghost use Rattle.station_log.specs.Log.{buffer_after};
-ghost use Rattle.station_log.specs.Parts.{longest_answers};
+ghost use Rattle.station_log.specs.Log.{buffer_after, number_of_fault};
 ghost use Rattle.answers.specs.declared.Answer.{Answer as Answered};
 ghost use Rattle.text.specs.Report.{lines_of, report_of, whole_report, Prints, ReportOwed};
 ghost use Rattle.lines.specs.Text.{header as Text·header};
 ghost use Rattle.lines.specs.Text.{refused_line};
-ghost use Rattle.text.specs.Walk.{longest_report, Holds, Ordered};
-ghost use Rattle.lines.specs.Written.{AtFront};
+ghost use Rattle.text.specs.Walk.{longest_report, HoldsAll, Ordered};
+ghost use Rattle.lines.specs.Written.{Written, AtFront};
 
+use crate::answer_walk::put_lines;
+use crate::each::Answers;
+use crate::page::{Count, Page};
+use lines::alone;
+use lines::pen::Pen;
+use lines::whole::{Header, RefusedLine};
 use promises::read_log;
+use station_log::Refused;
 
 mod answer_walk;
+mod each;
+mod page;
 mod season;
 
-// The length of the text written, or the length that a text buffer needs.
-#[derive(Clone, Copy)]
-pub enum Printed {
-    Written(usize),
-    Needs(usize),
+// A text buffer that is too short, and the length that it needs.
+#[derive(Clone, Copy, Debug, PartialEq, Eq)]
+pub struct TooShort {
+    pub needed: usize,
 }
 
 // No log has longer answers, and none a longer report, than one station, one crop and 3,852 answered days with a crop figure each would have, all of
@@ -32,35 +39,65 @@ pub const LONGEST_ANSWERS: usize = 69_341;
 pub const LONGEST_REPORT: usize = 223_457;
 
 // A refused log's line.
-fn print_refused(number: u8, value: usize, text: &mut [u8]) -> Printed
-    ensures { Prints (refused_line number value) text.old result text.new }
+fn print_refused(refused: Refused, text: &mut [u8]) -> Result<usize, TooShort>
+    ensures { Prints (refused_line (number_of_fault refused.why) refused.place) text.old result text.new }
 {
-    let mut line = [0u8; 64];
-    let n = lines::single::refused_line(number, value, &mut line);
-    if text.len() < n {
-        return Printed::Needs(n);
+    let line = RefusedLine {
+        number: u8::from(refused.why),
+        value: refused.place,
+    };
+    let mut own = [0; 64];
+    let needed = alone(line, &mut own);
+    if text.len() < needed {
+        return Err(TooShort { needed });
     }
-    Printed::Written(lines::whole::put_refused_line(text, 0, number, value))
+    text[..needed].copy_from_slice(&own[..needed]);
+    Ok(needed)
 }
 
-// The header and the lines of the answers that the first n bytes hold. They are counted first, so that a text buffer that is too short is left as it was.
-fn print_answers(answers: &[u8], n: usize, text: &mut [u8]) -> Printed
-    requires n_le_longest_answers { n ≤ longest_answers }
-    requires holds { (all : List Answered) × Holds answers.now 0 n all × Ordered all × (length (Text·header ++ lines_of all) ≤ longest_report) }
-    ensures { (all : List Answered) → Holds answers.now 0 n all → Ordered all → Prints (Text·header ++ lines_of all) text.old result text.new }
+// The header and the lines of the answers whose bytes these are.
+fn put_report<P: Page>(answers: Answers<'_>, page: &mut P)
+    requires { (all : List Answered) × HoldsAll answers.bytes.now all × Ordered all × P.Room page.old (Text·header ++ lines_of all) }
+    ensures { (all : List Answered) → HoldsAll answers.entry.bytes.now all → Ordered all → P.Laid page.old (Text·header ++ lines_of all) page.new }
 {
-    let mut line = [0u8; 64];
-    let above = lines::single::header(&mut line);
-    let size = answer_walk::put_lines(answers, n, text, above, false);
-    if text.len() < size {
-        return Printed::Needs(size);
+    page.put(Header);
+    put_lines(answers, page);
+}
+
+// How long they are.
+fn count_answers(answers: Answers<'_>) -> usize
+    requires { (all : List Answered) × HoldsAll answers.bytes.now all × Ordered all × (length (Text·header ++ lines_of all) ≤ longest_report) }
+    ensures { (all : List Answered) → HoldsAll answers.entry.bytes.now all → Ordered all → result ≡ length (Text·header ++ lines_of all) }
+{
+    let mut count = Count { bytes: 0 };
+    put_report(answers, &mut count);
+    count.bytes
+}
+
+// Writes them from the front of a text.
+fn write_answers(answers: Answers<'_>, text: &mut [u8]) -> usize
+    requires { (all : List Answered) × HoldsAll answers.bytes.now all × Ordered all × (length (Text·header ++ lines_of all) ≤ length text.old) }
+    ensures { (all : List Answered) → HoldsAll answers.entry.bytes.now all → Ordered all → Written text.old 0 (Text·header ++ lines_of all) text.new result }
+{
+    let mut pen = Pen { text, at: 0 };
+    put_report(answers, &mut pen);
+    pen.at
+}
+
+// They are counted first, so that a text buffer that is too short is left as it was.
+fn print_answers(answers: Answers<'_>, text: &mut [u8]) -> Result<usize, TooShort>
+    requires { (all : List Answered) × HoldsAll answers.bytes.now all × Ordered all × (length (Text·header ++ lines_of all) ≤ longest_report) }
+    ensures { (all : List Answered) → HoldsAll answers.entry.bytes.now all → Ordered all → Prints (Text·header ++ lines_of all) text.old result text.new }
+{
+    let needed = count_answers(answers);
+    if text.len() < needed {
+        return Err(TooShort { needed });
     }
-    let start = lines::whole::put_header(text, 0);
-    Printed::Written(answer_walk::put_lines(answers, n, text, start, true))
+    Ok(write_answers(answers, text))
 }
 
 // Reads a log and writes its report. The answers are left as `read_log` leaves them.
-pub fn write_report(log: &[u8], answers: &mut [u8], text: &mut [u8]) -> Printed
+pub fn write_report(log: &[u8], answers: &mut [u8], text: &mut [u8]) -> Result<usize, TooShort>
     ensures prints { Prints (report_of log.now (length answers.old)) text.old result text.new }
     ensures report_owed { ReportOwed log.now answers.old text.old result text.new }
     ensures answers_after { answers.new ≡ buffer_after log.now answers.old }
@@ -68,12 +105,17 @@ pub fn write_report(log: &[u8], answers: &mut [u8], text: &mut [u8]) -> Printed
     ensures crop_figures_owed { CropFiguresOwed log.now answers.old answers.new }
 {
     match read_log(log, answers) {
-        Err(refused) => print_refused(u8::from(refused.why), refused.place, text),
-        Ok(n) => print_answers(answers, n, text),
+        Err(refused) => print_refused(refused, text),
+        Ok(n) => print_answers(
+            Answers {
+                bytes: &answers[..n],
+            },
+            text,
+        ),
     }
 }
 
-// Reads a log and writes its report whole: both buffers are long enough for every log, so that none comes to `Needs`.
+// Reads a log and writes its report whole: both buffers are long enough for every log, so that none is too short.
 pub fn whole_report(
     log: &[u8],
     answers: &mut [u8; LONGEST_ANSWERS],
@@ -82,8 +124,5 @@ pub fn whole_report(
     ensures at_front { AtFront text.old (whole_report log.now) text.new result × (result ≤ length text.old) }
     ensures answers_after { answers.new ≡ buffer_after log.now answers.old }
 {
-    match write_report(log, answers, text) {
-        Printed::Written(n) => n,
-        Printed::Needs(_) => 0,
-    }
+    write_report(log, answers, text).unwrap()
 }

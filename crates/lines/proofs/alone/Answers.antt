@@ -1,5 +1,4 @@
 -- `lines::alone` meets its contract. Assumes nothing.
-use native.Mathlib.Omega.{arith}
 use Rattle.lines.proofs.Written.{at_front}
 use Rattle.lines.proofs.alone.Goals as goal
 
