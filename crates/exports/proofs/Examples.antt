@@ -7,10 +7,9 @@ use Rattle.day.specs.declared.Verdict.TheVariants.{Figure}
 use Rattle.day.proofs.Examples.{days}
 use Rattle.exports.specs.HandedIn.{station_of, day_of, mean_of, three_before}
 use Rattle.exports.specs.Told.{accepted, refused, estimated, said_by, outcome_said, printed_said}
-use Rattle.std.specs.Prelude.{Ok}
+use Rattle.std.specs.Prelude.{Ok, Err}
 use Rattle.station_log.specs.Log.{refusal}
 use Rattle.station_log.specs.declared.Fault.TheVariants.{CutShort, ShortBuffer}
-use Rattle.text.specs.declared.Printed.TheVariants as printed
 
 -- the summer day at LIDW after means of 71 and 70 °F, by its 26 numbers
 pub handed_in : judged (station_of 76 73 68 87 (pos 154) (pos 1_760) (pos 614) (negsuc 395) (pos 590) 100 497 1_500)
@@ -22,7 +21,7 @@ pub flags : (mean_of 0 (pos 710) ≡ None) × (mean_of 1 (pos 710) ≡ Some (pos
 flags = (refl, refl, refl)
 
 -- 3,518; 7 with nothing; 3,347 with the mark, whose number is 256; a text buffer that is too short
-pub told : (said_by 3_518 ≡ accepted 3_518) × (said_by 30_064_771_072 ≡ refused 7 0) × (said_by 1_099_511_631_123 ≡ estimated 3_347) × (printed_said (printed.Needs 132) ≡ refused 12 132)
+pub told : (said_by 3_518 ≡ accepted 3_518) × (said_by 30_064_771_072 ≡ refused 7 0) × (said_by 1_099_511_631_123 ≡ estimated 3_347) × (printed_said (Err (record { needed = 132 })) ≡ refused 12 132)
 unfolding said_by
 told = (refl, refl, refl, refl)
 

@@ -1,6 +1,6 @@
 -- What a number that an exported function returns says of a day, of a log or of a report. Every number of 64 bits says one thing, and no two say the same (proofs/Told.antt, `told_apart`).
 -- Assumes nothing.
-use Rattle.std.specs.Prelude.{cond, List, ◌≡◌, ℕ, ◌/◌, ◌%◌, eqb, Ok, Err}
+use Rattle.std.specs.Prelude.{cond, List, ◌≡◌, ℕ, ◌/◌, ◌%◌, eqb, Result, Ok, Err}
 use Rattle.day.specs.Bound.{WithinBound}
 use Rattle.day.specs.Judgement.{Answered, as_judged, with_mark}
 use Rattle.day.specs.Rules.{number_of}
@@ -12,8 +12,7 @@ use Rattle.day.specs.declared.Verdict.TheVariants.{Figure, Refused, Estimated}
 use Rattle.station_log.specs.Log.{number_of_fault, Outcome}
 use Rattle.promises.specs.Demand.{AnsweredLog}
 use Rattle.text.specs.Report.{ReportOwed}
-use Rattle.text.specs.declared.Printed.{Printed}
-use Rattle.text.specs.declared.Printed.TheVariants as printed
+use Rattle.text.specs.declared.TooShort.{TooShort}
 
 -- a figure or a length; or a refusal's number, with its offset or the length needed, and 0 where it has neither; or a figure with the mark
 pub data Said : Type 0 where
@@ -43,9 +42,9 @@ outcome_said (Ok n) = accepted n
 outcome_said (Err r) = refused (number_of_fault r.why) r.place
 
 -- a text buffer that is too short is refused with 12, as an answer buffer is
-abbrev pub printed_said : Printed → Said
-printed_said (printed.Written n) = accepted n
-printed_said (printed.Needs n) = refused 12 n
+abbrev pub printed_said : Result ℕ TooShort → Said
+printed_said (Ok n) = accepted n
+printed_said (Err short) = refused 12 short.needed
 
 -- Demand 3, of the number: an answered day has a figure there, with the mark where the minimum stands for its dew point, and within the bound
 unfoldable pub FigureSaid : Station → Day → Earlier → ℕ → Type 0
@@ -58,4 +57,4 @@ LengthSaid s buffer r = AnsweredLog s buffer → (n : ℕ) × (said_by r ≡ acc
 
 -- of the number returned for such a log's report: it says the length of the report, or 12 and the length needed, and not those of a refusal's line
 unfoldable pub ReportSaid : List ℕ → List ℕ → List ℕ → ℕ → List ℕ → Type 0
-ReportSaid s buffer before r after = (p : Printed) × (said_by r ≡ printed_said p) × ReportOwed s buffer before p after
+ReportSaid s buffer before r after = (p : Result ℕ TooShort) × (said_by r ≡ printed_said p) × ReportOwed s buffer before p after

@@ -15,7 +15,6 @@ ghost use Rattle.exports.specs.Version.{version};
 use day::judge::judge;
 use day::{Code, Day, Earlier, Station, Verdict};
 use station_log::Fault;
-use text::Printed;
 
 // What stands in the high half for no refusal, and for the mark: a refusal's number has one byte.
 const NO_REFUSAL: u32 = 0;
@@ -127,7 +126,7 @@ pub extern "C" fn fuortwem_read_log(log: &[u8], answers: &mut [u8]) -> u64
     ensures crop_figures_owed { CropFiguresOwed log.now answers.old answers.new }
 {
     match promises::read_log(log, answers) {
-        Ok(n) => packed(NO_REFUSAL, n as u32),
+        Ok(written) => packed(NO_REFUSAL, written as u32),
         Err(refused) => packed(u8::from(refused.why).into(), refused.place as u32),
     }
 }
@@ -144,7 +143,7 @@ pub extern "C" fn fuortwem_report(log: &[u8], answers: &mut [u8], text: &mut [u8
     ensures crop_figures_owed { CropFiguresOwed log.now answers.old answers.new }
 {
     match text::write_report(log, answers, text) {
-        Printed::Written(n) => packed(NO_REFUSAL, n as u32),
-        Printed::Needs(n) => packed(u8::from(Fault::ShortBuffer).into(), n as u32),
+        Ok(printed) => packed(NO_REFUSAL, printed as u32),
+        Err(short) => packed(u8::from(Fault::ShortBuffer).into(), short.needed as u32),
     }
 }

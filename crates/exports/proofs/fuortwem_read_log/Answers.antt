@@ -4,8 +4,8 @@ use Rattle.exports.specs.Told.{outcome_said}
 use Rattle.exports.proofs.Returned.{written_small, refused_small, refused_said, length_said}
 use Rattle.exports.proofs.fuortwem_read_log.Goals as goal
 
-pub overflow_cast-n : goal.overflow_cast-n
-overflow_cast-n c = record { fits = written_small _ _ c.in-Ok.ensures.read.outcome }
+pub overflow_cast-written : goal.overflow_cast-written
+overflow_cast-written c = record { fits = written_small _ _ c.in-Ok.ensures.read.outcome }
 
 pub overflow_cast-refused : goal.overflow_cast-refused
 overflow_cast-refused c = record { fits = refused_small _ _ c.in-Err.ensures.read.outcome }

@@ -5,25 +5,26 @@ use Prim.Native.Nat.{ℕ, ◌<◌}
 use native.Mathlib.Omega.{arith}
 use Rattle.text.proofs.SmallAnswers.{AreBytes}
 use Rattle.text.specs.Report.{Prints, report_of}
-use Rattle.text.specs.declared.Printed.{Printed}
+use Rattle.std.specs.Prelude.{Result}
+use Rattle.text.specs.declared.TooShort.{TooShort}
 use Rattle.text.proofs.LongEnough.{report_most}
 use Rattle.text.proofs.Prints.{size_in, printed_size}
 use Rattle.exports.specs.Told.{said, printed_said, ReportSaid}
 use Rattle.exports.proofs.fuortwem_report.Goals as goal
 
-small : (s : List ℕ) (size : ℕ) {before after : List ℕ} (p : Printed) → AreBytes s → Prints (report_of s size) before p after → size_in p < 4294967296
+small : (s : List ℕ) (size : ℕ) {before after : List ℕ} (p : Result ℕ TooShort) → AreBytes s → Prints (report_of s size) before p after → size_in p < 4294967296
 small s size p bytes printed = omega (arith, printed_size printed, report_most s bytes size)
 
-pub overflow_cast-n : goal.overflow_cast-n
-overflow_cast-n c = record { fits = small _ _ _ (λ i. omega (arith, c.type_inv.log i)) c.in-Written.ensures.prints }
+pub overflow_cast-printed : goal.overflow_cast-printed
+overflow_cast-printed c = record { fits = small _ _ _ (λ i. omega (arith, c.type_inv.log i)) c.in-Ok.ensures.prints }
 
-pub overflow_cast-n-in-Needs : goal.overflow_cast-n-in-Needs
-overflow_cast-n-in-Needs c = record { fits = small _ _ _ (λ i. omega (arith, c.type_inv.log i)) c.in-Needs.ensures.prints }
+pub overflow_cast-short : goal.overflow_cast-short
+overflow_cast-short c = record { fits = small _ _ _ (λ i. omega (arith, c.type_inv.log i)) c.in-Err.ensures.prints }
 
-pub returns-in-Written : goal.returns-in-Written
+pub returns-in-Ok : goal.returns-in-Ok
 unfolding ReportSaid
-returns-in-Written c =
-    let report = c.in-Written.ensures in
+returns-in-Ok c =
+    let report = c.in-Ok.ensures in
     let said = c.packed.ensures in
     record {
       result_value = said ∙ ap printed_said report.prints.told;
@@ -34,11 +35,11 @@ returns-in-Written c =
       crop_figures_owed = report.crop_figures_owed;
     }
 
-pub returns-in-Needs : goal.returns-in-Needs
+pub returns-in-Err : goal.returns-in-Err
 unfolding ReportSaid
-returns-in-Needs c =
-    let report = c.in-Needs.ensures in
-    let said = c.packed-in-Needs.ensures ∙ ap (λ (k : ℕ). said k c.in-Needs.n) (c.into.ensures ∙ c.from.ensures) in
+returns-in-Err c =
+    let report = c.in-Err.ensures in
+    let said = c.packed-in-Err.ensures ∙ ap (λ (k : ℕ). said k c.in-Err.short.needed) (c.into.ensures ∙ c.from.ensures) in
     record {
       result_value = said ∙ ap printed_said report.prints.told;
       text_after = report.prints.bytes;
