@@ -1,7 +1,6 @@
-// An answer read back from its bytes, and how many they are.
+// An answer read back from its bytes.
 ghost use Rattle.std.specs.Prelude.{◌≡◌, ◌+◌, ◌*◌, ◌<◌, length};
 ghost use Rattle.records.specs.Bytes.{word_at};
-ghost use Rattle.answers.specs.Answers.{answer_bytes};
 ghost use Rattle.answers.specs.ReadBack.{StandsAt};
 ghost use Rattle.answers.specs.declared.Answer.{Answer as Answered};
 ghost use Rattle.answers.specs.declared.Answer.TheVariants as answer;
@@ -43,11 +42,4 @@ pub fn answer_at(answers: &[u8], at: usize) -> Answer
             day_at(answers, at, Verdict::Refused(why))
         }
     }
-}
-
-// How many bytes an answer has.
-pub fn size(a: Answer) -> usize
-    ensures { result ≡ length (answer_bytes a) }
-{
-    a.size()
 }
