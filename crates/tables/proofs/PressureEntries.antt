@@ -80,7 +80,7 @@ pressure_rule e r h p near =
 -- ---- the table
 
 -- the table, by the metre: each of its 3,001 entries, from 0 on
-pub record PressureEntries (t : List ℕ) : Type 0 where
+pub record PressureTable (t : List ℕ) : Type 0 where
   pub entries : (e : ℕ) → e ≤ 3000 → Entry (pressure_at e) (PressureEntry e) pressure_range (get_or t e 0)
 
 abbrev pub fixed_test : ℕ → ℕ → Bool
@@ -109,6 +109,6 @@ pressure_entry e r l test =
     }
 
 -- a table of 3,001 entries that all pass the test
-pub pressure_table : (xs : List ℕ) → length xs ≡ 3001 → T (every pressure_test 0 xs) → PressureEntries xs
+pub pressure_table : (xs : List ℕ) → length xs ≡ 3001 → T (every pressure_test 0 xs) → PressureTable xs
 pressure_table xs n test =
     record { entries = λ e l. pressure_entry e (get_or xs e 0) l (entry_passes pressure_test 0 xs test e e (omega arith) (omega arith)) }

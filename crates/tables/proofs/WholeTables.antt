@@ -12,7 +12,7 @@ use Rattle.tables.specs.declared.pressure_table.TheConstants.{PRESSURE}
 use Rattle.tables.proofs.Curves.{DayEntries, table_of_values}
 use Rattle.tables.proofs.DayRules.{albedo_values, a1_values, aw_values, bw_values}
 use Rattle.tables.proofs.PowerTests.{power_test, upper, lower, tenth_up, tenth_down}
-use Rattle.tables.proofs.PressureEntries.{pressure_test, PressureEntries, pressure_table}
+use Rattle.tables.proofs.PressureEntries.{pressure_test, PressureTable, pressure_table}
 
 pub albedos : DayEntries albedo_at AlbedoEntry albedo_range ALBEDO
 unfolding curve_at rounded arc_sum arc_sums sin_sum sum_to more
@@ -30,6 +30,6 @@ pub bw_factors : DayEntries bw_at BwEntry bw_range BW
 unfolding curve_at rounded bell_sums exp_sum sum_to more
 bw_factors = table_of_values bw_values BW refl tt
 
-pub pressures : PressureEntries PRESSURE
+pub pressures : PressureTable PRESSURE
 unfolding pressure_test power_test upper lower tenth_up tenth_down
 pressures = pressure_table PRESSURE refl tt
