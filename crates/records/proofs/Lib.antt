@@ -1,5 +1,4 @@
 -- The lemmas that belong to no one function.
-pub mod Choice
 pub mod Signed
 pub mod Stages
 pub mod Alike

@@ -13,7 +13,7 @@ use Rattle.station_log.specs.Log.{Outcome, longest, answers_to, reading_of, sett
 use Rattle.station_log.specs.Parts.{longest_answers}
 use Rattle.std.specs.Prelude.{Result, Ok, Err}
 use Rattle.station_log.proofs.OutcomeSize.{Small, outcome_small, written_size}
-use Rattle.records.proofs.Choice.{by_cond}
+use Rattle.std.proofs.lemmas.Bool.{cond_both}
 use Rattle.promises.specs.Demand.{AnsweredLog}
 use Rattle.text.specs.Report.{lines_of, text_of, report_of, Prints, ReportOwed}
 use Rattle.text.proofs.SmallAnswers.{AreBytes}
@@ -37,7 +37,7 @@ module _ {s buffer after : List ℕ} where
   lines_short bytes h =
       text_most s bytes
       (subst (ShortLog s) (sym h.outcome)
-      (by_cond (ShortLog s) (ltb longest (length s)) (λ e. tt) (λ e. short_log s (settled (reading_of s) (length buffer)) (ltb-false longest (length s) e))))
+      (cond_both (ltb longest (length s)) _ _ (ShortLog s) (λ e. tt) (λ e. short_log s (settled (reading_of s) (length buffer)) (ltb-false longest (length s) e))))
 
   pub answers_few : {n : ℕ} → Read s buffer (Ok n) after → n ≤ longest_answers
   answers_few h = subst Small (sym h.outcome) (outcome_small s (length buffer))

@@ -11,7 +11,7 @@ use borrow.Author.Tests.{ltb-false}
 use Rattle.answers.specs.declared.Answer.{Answer}
 use Rattle.answers.specs.declared.Answer.TheVariants as answer
 use Rattle.day.specs.declared.Code.{Code}
-use Rattle.records.proofs.Choice.{by_cond}
+use Rattle.std.proofs.lemmas.Bool.{cond_both}
 use Rattle.answers.specs.Answers.{bytes_of}
 use Rattle.answers.proofs.Roles.{count}
 use Rattle.station_log.specs.Log.{number_of_fault, Outcome, longest, answers_to, reading_of, outcome_of, settled}
@@ -71,7 +71,7 @@ module _ (s : List ℕ) (bytes : AreBytes s) where
   pub report_most : (size : ℕ) → length (report_of s size) ≤ longest_report
   unfolding report_of outcome_of
   report_most size =
-      by_cond (λ o. Small o → Short o) (ltb longest (length s)) (λ e. refused_short (record { why = TooLong; place = 0 }))
+      cond_both (ltb longest (length s)) _ _ (λ o. Small o → Short o) (λ e. refused_short (record { why = TooLong; place = 0 }))
       (λ e. any_short (ltb-false longest (length s) e) (settled (reading_of s) size)) (outcome_small s size)
 
 pub long_enough : LongEnough longest_answers longest_report

@@ -9,7 +9,7 @@ use borrow.Author.Tests.{lt-ltb, le-ltb}
 use lib.Dec.{ltb}
 use lib.ListN.{length, drop, take, length-append, length-drop}
 use Rattle.std.proofs.Math.Seq.{take-append_seam}
-use Rattle.records.proofs.Choice.{by_cond}
+use Rattle.std.proofs.lemmas.Bool.{cond_both}
 use Rattle.answers.proofs.Overwriting.{laid_front}
 use Rattle.text.specs.Report.{Prints, printed_in, text_over}
 use Rattle.lines.specs.Written.{Written, AtFront}
@@ -73,7 +73,7 @@ size_in (Err short) = short.needed
 -- written or needed, it is the text's length
 pub printed_size : {text before after : List ℕ} {r : Result ℕ TooShort} → Prints text before r after → size_in r ≡ length text
 printed_size {text} {before} p =
-    ap size_in p.told ∙ by_cond (λ r. size_in r ≡ length text) (ltb (length before) (length text)) (λ e. refl) (λ e. refl)
+    ap size_in p.told ∙ cond_both (ltb (length before) (length text)) _ _ (λ r. size_in r ≡ length text) (λ e. refl) (λ e. refl)
 
 -- ---- a buffer that is long enough
 

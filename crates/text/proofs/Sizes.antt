@@ -19,7 +19,7 @@ use Rattle.day.specs.declared.Verdict.TheVariants.{Figure, Refused, Estimated}
 use Rattle.day.proofs.FigureLimit.{most_figure}
 use Rattle.lines.proofs.Lengths.{month_line_of_log, month_line_of_day, season_line_of_log}
 use Rattle.station_log.proofs.Longest.{most_days}
-use Rattle.records.proofs.Choice.{by_cond}
+use Rattle.std.proofs.lemmas.Bool.{cond_both}
 use Rattle.totals.specs.Months.{month_of, year_at, month_at, months}
 use Rattle.totals.specs.Tally.{InMonthOrder}
 use Rattle.totals.specs.Totals.{counted_in, none, one, plus, share_of, total_of, is_month, month_total, season_total, each_month}
@@ -97,7 +97,7 @@ module _ (code : Code) where
   -- a month without a day, of one, and of more
   month_most : (k : ℕ) → k < months → (t : Total) → Bounded most_days t → length (month_text code (year_at k) (month_at k) t) ≤ 22 * t.days
   month_most k inside t h =
-      by_cond (λ (l : List ℕ). length l ≤ 22 * t.days) (eqb t.days 0) (λ e. omega arith)
+      cond_both (eqb t.days 0) _ _ (λ (l : List ℕ). length l ≤ 22 * t.days) (λ e. omega arith)
       (λ e.
       let some : t.days ≡ 0 → ⊥ = eqb-false t.days 0 e in
       ⊎_elim

@@ -25,7 +25,7 @@ use Rattle.day.proofs.FigureLimit.{most_figure, figure_most}
 use Rattle.day.proofs.Passed.{day_high}
 use Rattle.records.specs.Bytes.{word_at}
 use Rattle.records.specs.Record.{day_at}
-use Rattle.records.proofs.Choice.{by_cond}
+use Rattle.std.proofs.lemmas.Bool.{cond_both}
 use Rattle.station_log.specs.History.{good_date, earlier_means, verdict_of}
 use Rattle.station_log.specs.Log.{unopened, Entry, day, past_all, crop_answers, answers_for, answers_of, answers_at_end, answers_in, answers_to, Reading, refused, accepted, reading_of}
 use Rattle.station_log.specs.Parts.{entries_of}
@@ -93,7 +93,7 @@ module _ (s : List ℕ) (bytes : AreBytes s) where
     line_most : Fits (verdict_of x h y)
     unfolding verdict_of verdict_text
     line_most =
-        by_cond Fits (good_date h y) (λ good. by (judged x y (earlier_means h y)) (figure_most x y (earlier_means h y) (station_constants sound)) (good_date_lem h y good)) (λ bad. refused_most BadDate)
+        cond_both (good_date h y) _ _ Fits (λ good. by (judged x y (earlier_means h y)) (figure_most x y (earlier_means h y) (station_constants sound)) (good_date_lem h y good)) (λ bad. refused_most BadDate)
       where
         by : (v : Verdict) → FigureAtMost most_figure v → is_date y.year y.d ≡ true → Fits v
         by (Figure n) small date = dated_line_most date (Figure n) (omega (arith, inches_most 0 n (omega arith)))
