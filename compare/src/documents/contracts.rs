@@ -54,8 +54,10 @@ pub fn read(files: &Files, specs: &Specs) -> Vec<Contract> {
                 let named = named.filter_map(|it| specs.brought_in(&scope, it));
                 let named: BTreeSet<usize> = named.collect();
                 if clause == "member" {
-                    given.extend(named);
-                } else if let Some(contract) = contracts.last_mut() {
+                    given.extend(&named);
+                }
+                // A member may stand behind them too, as a law does.
+                if let Some(contract) = contracts.last_mut() {
                     contract.named.extend(&named);
                     if clause == "ensures" {
                         contract.ensured.extend(named);

@@ -14,7 +14,7 @@ use lines::whole::{CropLine, DayLine};
 
 // A block: its station's code, and the index of its first answer.
 #[derive(Clone, Copy)]
-pub struct Block {
+pub(crate) struct Block {
     pub code: Code,
     pub from: usize,
 }
@@ -61,7 +61,7 @@ fn open_after(block: Option<Block>, a: Answer, next: usize) -> Option<Block>
 }
 
 // The lines of the answers whose bytes these are.
-pub fn put_lines<P: Page>(answers: Answers<'_>, page: &mut P)
+pub(crate) fn put_lines<P: Page>(answers: Answers<'_>, page: &mut P)
     requires { (all : List Answered) × HoldsAll answers.bytes.now all × Ordered all × P.Room page.old (lines_of all) }
     ensures { (all : List Answered) → HoldsAll answers.entry.bytes.now all → Ordered all → P.Laid page.old (lines_of all) page.new }
 {

@@ -10,13 +10,13 @@ use answers::read_back::answer_at;
 // Bytes of answers, no more of them than a log's answers can have. Which answers they are no field says, so each contract names them: a whole log's are
 // in order in each block, and a block's by their months.
 #[derive(Clone, Copy)]
-pub struct Answers<'a> {
+pub(crate) struct Answers<'a> {
     pub bytes: &'a [u8],
-    pub ghost few: { length bytes.now ≤ longest_answers },
+    ghost few: { length bytes.now ≤ longest_answers },
 }
 
 impl<'a> Answers<'a> {
-    pub fn each(self) -> Each<'a>
+    pub(crate) fn each(self) -> Each<'a>
         ensures bytes { result.answers.now ≡ self.entry.bytes.now }
         ensures at { result.at ≡ 0 }
     {
@@ -29,7 +29,7 @@ impl<'a> Answers<'a> {
 
 // Each of them in turn, with its offset.
 #[derive(Clone, Copy)]
-pub struct Each<'a> {
+pub(crate) struct Each<'a> {
     pub answers: &'a [u8],
     pub at: usize,
 }

@@ -8,7 +8,7 @@ use lines::pen::Pen;
 use lines::{Line, alone};
 
 // Lines are put on it one behind another. `Room` says that a text has a place there, and `Laid` what it is with the text on it.
-pub trait Page {
+pub(crate) trait Page {
     ghost Room: { Self → List ℕ → Type 0 };
 
     ghost Laid: { Self → List ℕ → Self → Type 0 };
@@ -36,7 +36,7 @@ impl Page for Pen<'_> {
 
 // The number of bytes.
 #[derive(Clone, Copy)]
-pub struct Count {
+pub(crate) struct Count {
     pub bytes: usize,
 }
 

@@ -39,7 +39,7 @@ fn put_ended<P: Page>(code: Code, tally: Tally, counted: Option<Counted>, page: 
 
 // The lines about the block that has these answers. They are in date order, so a month ends where another begins, and nothing is kept but the month that
 // is open and the season.
-pub fn put_totals<P: Page>(answers: Answers<'_>, code: Code, page: &mut P)
+pub(crate) fn put_totals<P: Page>(answers: Answers<'_>, code: Code, page: &mut P)
     requires { (own : List Answered) × HoldsAll answers.bytes.now own × InMonthOrder 0 own × P.Room page.old (about_block code own) }
     ensures { (own : List Answered) → HoldsAll answers.entry.bytes.now own → InMonthOrder 0 own → P.Laid page.old (about_block code own) page.new }
 {
