@@ -1,7 +1,7 @@
 -- `answers::read_back::answer_at` meets its contract. Assumes nothing.
 use mathlib.Core.Path.{refl}
 use native.Mathlib.Omega.{arith}
-use Rattle.answers.proofs.ReadBack.{number_told, some_kind, room, is_crop, is_figure, is_estimate, is_refusal, some_refusal, refusal_is}
+use Rattle.answers.proofs.ReadBack.{number_told, some_kind, room, is_station, is_crop, is_figure, is_estimate, is_refusal, some_refusal, refusal_is}
 use Rattle.answers.proofs.read_back.answer_at.Goals as goal
 
 pub unwrap-requires : goal.unwrap-requires
@@ -38,6 +38,9 @@ pub unwrap-why-requires : goal.unwrap-why-requires
 unwrap-why-requires c =
     let k = number_told c.try_from.ensures c.in-Refusal.ensures in
     some_refusal k c.four_at-in-Refusal.ensures _ c.try_from-in-Refusal.ensures c.requires.0 c.requires.1
+
+pub returns-in-Station : goal.returns-in-Station
+returns-in-Station c = is_station (number_told c.try_from.ensures c.in-Station.ensures) c.code_at.ensures
 
 pub returns-in-Crop : goal.returns-in-Crop
 returns-in-Crop c = is_crop (number_told c.try_from.ensures c.in-Crop.ensures) c.code_at-in-Crop.ensures c.four_at.ensures
