@@ -20,10 +20,13 @@ const ROWS: [(&str, &[&str]); 7] = [
         ],
     ),
     (
-        "and the five tables' rules: `DayTables`, `PressureTable`",
+        "and the five tables' rules: `DayRule`, `PressureEntry`, `Entry`",
         &[
-            "tables::day_tables DayTables",
-            "tables::pressures PressureTable",
+            "tables::entry DayRule",
+            "tables::entry day_range",
+            "tables::entry Entry",
+            "tables::pressure PressureEntry",
+            "tables::pressure pressure_range",
         ],
     ),
     (
@@ -56,11 +59,12 @@ const ROWS: [(&str, &[&str]); 7] = [
 
 /// What is passed over with all that only it needs. The tables' values: the contract of each lookup ties its value to the
 /// rule. And the laws by which the operations on ratios are such on fractions: a definition names them as its proof.
-const LOOKUPS: [&str; 5] = [
-    "tables::albedo albedo_at",
-    "tables::a1 a1_at",
-    "tables::aw aw_at",
-    "tables::bw bw_at",
+const LOOKUPS: [&str; 6] = [
+    "tables::entry day_value",
+    "tables/Values albedo_at",
+    "tables/Values a1_at",
+    "tables/Values aw_at",
+    "tables/Values bw_at",
     "tables::pressure pressure_at",
 ];
 const LAWS: &str = "crates/ratios/proofs/Congruence.antt";

@@ -10,6 +10,8 @@ pub struct Function {
     /// With its crate, its module and its type: `day::readings::Wind::in_range`.
     pub name: String,
     pub is_public: bool,
+    /// The method of a trait that it is, `Line::put`.
+    pub of_trait: Option<String>,
 }
 
 pub fn read(files: &Files) -> Vec<Function> {
@@ -33,12 +35,13 @@ pub fn read(files: &Files) -> Vec<Function> {
             let Some((name, is_public)) = begun(&words(line)) else {
                 continue;
             };
-            // The methods of a trait have no `pub`: they are as public as it is, and those that it only declares are no functions.
+            // The methods of a trait have no `pub`: they are as public as it is. What a trait only declares has no program.
             let is_public = match of.of_trait {
-                Some(_) if of.is_trait && !has_body(text.lines().skip(at)) => continue,
+                Some(_) if of.is_trait && !has_body(text.lines().skip(at)) => false,
                 Some(of_trait) => !is_inner(of_trait) && !is_inner(of.name),
                 None => is_public,
             };
+            let of_trait = of.of_trait.filter(|_| !of.is_trait);
             let of_type = match of.name {
                 "" => String::new(),
                 name => format!("{name}::"),
@@ -48,6 +51,7 @@ pub fn read(files: &Files) -> Vec<Function> {
                 line: at + 1,
                 name: format!("{module}::{of_type}{name}"),
                 is_public,
+                of_trait: of_trait.map(|it| format!("{it}::{name}")),
             });
         }
     }
@@ -107,10 +111,15 @@ fn kept_inside(line: &str) -> Option<&str> {
     sort.iter().find_map(|it| line.strip_prefix(it)).map(bare)
 }
 
-/// Whether the function that the first of some lines begins has a body: a trait's may end with its clauses.
-fn has_body<'a>(mut lines: impl Iterator<Item = &'a str>) -> bool {
-    let end = lines.find(|line| line.ends_with(';') || line.trim() == "{" || line.trim() == "}");
-    end.is_some_and(|line| line.trim() == "{")
+/// Whether the function that the first of some lines begins has a body: a trait's may end with its signature or its clauses.
+fn has_body<'a>(lines: impl Iterator<Item = &'a str>) -> bool {
+    let is_clause = |line: &&str| {
+        let clauses = ["requires", "ensures", "ghost"];
+        clauses.iter().any(|it| line.trim_start().starts_with(it))
+    };
+    let mut lines = lines.filter(|line| line.ends_with(';') || !is_clause(line));
+    let end = lines.find(|line| line.ends_with(';') || line.ends_with('{'));
+    end.is_some_and(|line| line.ends_with('{'))
 }
 
 /// The function that a line begins, and whether it is public.
@@ -121,6 +130,7 @@ fn begun<'a>(words: &[&'a str]) -> Option<(&'a str, bool)> {
         words => (false, words),
     };
     let words = words.strip_prefix(&["const"]).unwrap_or(words);
+    let words = words.strip_prefix(&["final"]).unwrap_or(words);
     match words.strip_prefix(&["extern", "\"C\""]).unwrap_or(words) {
         ["fn", name, ..] => Some((name.split('<').next().unwrap_or(name), is_public)),
         _ => None,
@@ -158,6 +168,11 @@ impl Iterator for Each {
 }
 
 pub trait Line: Copy {
+    final fn twice(self) -> usize
+    {
+        2 * self.size()
+    }
+
     fn put(self, pen: &mut Pen)
         ensures { result ≡ text };
 
@@ -195,12 +210,17 @@ pub extern \"C\" fn fuortwem_judge(
             (10, "day::readings::Reader::next", true),
             (14, "day::readings::Kind::try_from", true),
             (20, "day::readings::Each::next", false),
-            (29, "day::readings::Line::size", true),
-            (37, "day::readings::Row::put", true),
-            (40, "day::readings::within", false),
-            (42, "day::readings::inner", false),
-            (43, "day::readings::fuortwem_judge", true),
+            (26, "day::readings::Line::twice", true),
+            (31, "day::readings::Line::put", false),
+            (34, "day::readings::Line::size", true),
+            (42, "day::readings::Row::put", true),
+            (45, "day::readings::within", false),
+            (47, "day::readings::inner", false),
+            (48, "day::readings::fuortwem_judge", true),
         ];
         assert_eq!(found.collect::<Vec<_>>(), expected);
+        let of_traits = functions.iter().filter_map(|it| it.of_trait.as_deref());
+        let expected = ["TryFrom::try_from", "Iterator::next", "Line::put"];
+        assert_eq!(of_traits.collect::<Vec<_>>(), expected);
     }
 }

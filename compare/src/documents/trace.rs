@@ -47,8 +47,12 @@ pub fn check(files: &Files) -> Checked {
         let path = edit.replacen('/', "/must-fail/", 1);
         faults.push(format!("crates/{path}.edit:1: no wrong program of {TRACE}"));
     }
+    let count_of = |at: &usize| wrong.get(at).map_or(0, BTreeSet::len);
     for (at, function) in places.functions.iter().enumerate() {
-        let has = wrong.get(&at).map_or(0, BTreeSet::len);
+        // Those of a trait's method are said of it, or once for all its impls.
+        let of_trait = function.of_trait.as_deref();
+        let of_trait = of_trait.and_then(|it| places.function(it).ok());
+        let has = count_of(&at).max(of_trait.as_ref().map_or(0, count_of));
         if function.is_public && has < 2 {
             faults.push(format!(
                 "{}:{}: {TRACE} has {has} wrong programs of {}",
@@ -122,6 +126,41 @@ mod tests {
 | another | – | `rules::first` | – | `one_more`; as it was lent |
 ";
         assert_eq!(check(&with(rows)), (Vec::new(), 3));
+    }
+
+    #[test]
+    fn a_traits_method_is_asked_of_each_impl_or_once_of_the_trait() {
+        let line = "\
+pub trait Line {
+    fn put(self);
+}
+
+impl Line for Month {
+    fn put(self) {}
+}
+
+impl From<Month> for u8 {
+    fn from(month: Month) -> u8 {
+        0
+    }
+}
+";
+        let faults_with = |rows: &str| {
+            let mut files = with(rows);
+            files.insert("crates/lines/src/lib.rt".into(), line.into());
+            let faults = check(&files).0.into_iter();
+            faults.filter(|it| it.starts_with("crates/lines")).collect()
+        };
+        let of_month =
+            "crates/lines/src/lib.rt:6: docs/TRACE.md has 0 wrong programs of lines::Month::put";
+        let of_number =
+            "crates/lines/src/lib.rt:10: docs/TRACE.md has 0 wrong programs of lines::u8::from";
+        let none: Vec<String> = faults_with("| one | – | – | – | – |\n");
+        assert_eq!(none, [of_month, of_number]);
+        for name in ["Line::put", "Month::put"] {
+            let row = format!("| one | – | `{name}` | – | nothing; a byte less |\n");
+            assert_eq!(faults_with(&row), [of_number]);
+        }
     }
 
     #[test]
