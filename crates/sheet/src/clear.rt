@@ -25,11 +25,7 @@ pub fn clear_day(minimum: i64, sum: i64) -> i64
     requires { InRange quantities.clear_minimum minimum × InRange quantities.clear_sum sum }
     ensures { (result ≡ sheet.Q minimum sum) × InRange quantities.clear_day result }
 {
-    let least = 1_000_000_000 * minimum;
-    if sum < least {
-        return least;
-    }
-    sum
+    (1_000_000_000 * minimum).max(sum)
 }
 
 // Refusal 10.

@@ -9,10 +9,7 @@ pub fn counted_wind(limit: i64, w: i64) -> i64
     requires { InRange quantities.wind_limit limit × InRange quantities.wind w }
     ensures { (result ≡ sheet.counted_wind limit w) × InRange quantities.counted_wind result }
 {
-    if w > limit {
-        return limit;
-    }
-    w
+    w.min(limit)
 }
 
 // Wf, of the two table entries and the wind run that counts.

@@ -1,25 +1,27 @@
--- `sheet::wind::counted_wind` meets its contract: the branch's test is that of the definition. Assumes nothing.
-use mathlib.Core.Path.{◌∙◌}
+-- `sheet::wind::counted_wind` meets its contract: the smaller number is in its range, whichever it is. Assumes nothing.
+use mathlib.Core.Path.{◌≡◌, refl, ◌∙◌, ap₂}
+use mathlib.Core.Bool.{Bool, true, false, cond}
+use lib.IntN.{ℤ}
 use lib.Signed.{lt_z}
 use mir.Facts.{to_z-of_z}
+use Rattle.numbers.specs.Ranges.{InRange}
+use Rattle.numbers.specs.Whole.{at_most_ℤ}
+use Rattle.sheet.specs.Quantities as quantities
 use Rattle.sheet.specs.StepSheet.{counted_wind}
-use Rattle.sheet.proofs.Choices.{taken, left, at_most_in}
+use Rattle.sheet.proofs.Choices.{at_most_in}
 use Rattle.sheet.proofs.Laws.{limit_counts}
-use Rattle.sheet.proofs.Values.{keep}
+use Rattle.sheet.proofs.Values.{said, returned}
 use Rattle.sheet.proofs.wind.counted_wind.Goals as goal
 
-pub returns-then-w-limit : goal.returns-then-w-limit
-unfolding counted_wind
-returns-then-w-limit c =
-    let b = c.before in
-    let l = to_z-of_z b.ranges.limit in
-    (l ∙ taken lt_z l (to_z-of_z b.ranges.w) b.args.limit b.args.w c.if-w-limit.true, limit_counts (keep b.requires.0 tt))
+counted_in : {l z : ℤ} → InRange quantities.wind_limit l → InRange quantities.wind z → InRange quantities.counted_wind (at_most_ℤ l z)
+counted_in {l} {z} p q = by (lt_z l z) refl
+  where
+    by : (b : Bool) → lt_z l z ≡ b → InRange quantities.counted_wind (cond b l z)
+    by true e = limit_counts p
+    by false e = at_most_in p q e
 
 pub returns : goal.returns
 unfolding counted_wind
 returns c =
-    let b = c.before in
-    let w = to_z-of_z b.ranges.w in (
-      w ∙ left lt_z (to_z-of_z b.ranges.limit) w b.args.limit b.args.w c.if-w-limit.false,
-      at_most_in (keep b.requires.0 tt) (keep b.requires.1 tt) c.if-w-limit.false,
-    )
+    returned
+    (said (c.min.ensures.value ∙ ap₂ at_most_ℤ (to_z-of_z c.ranges.limit) (to_z-of_z c.ranges.w)) (counted_in c.requires.0 c.requires.1)) tt
