@@ -118,6 +118,7 @@ impl Line for RefusedLine {
     fn put(self, pen: &mut Pen<'_>) {
         pen.put_bytes(b"REFUSED");
         pen.put_number_field(0, u64::from(self.number));
+        // By `as`, since `u64` has no `From<usize>`.
         pen.put_number_field(0, self.value as u64);
         pen.put_bytes(b"\n");
     }
