@@ -4,7 +4,7 @@ ghost use Rattle.std.specs.Int.Signed.{le_z};
 ghost use Rattle.numbers.specs.Ranges.{Range, in_range};
 ghost use Rattle.sheet.specs.Limits as limits;
 
-// A kind of number that has a range, ends included.
+// A kind of number that has a range, ends included: its two ends as associated constants, and one in-range function, as document 01 asks.
 pub trait Ranged: Copy {
     ghost range: { Range };
 
@@ -34,14 +34,12 @@ pub trait Ranged: Copy {
 
 // A temperature in tenths of a degree Fahrenheit.
 #[derive(Clone, Copy)]
-pub struct Temperature {
-    pub tenths: i16,
-}
+pub struct Temperature(pub i16);
 
 impl Ranged for Temperature {
     ghost range = { limits.temperature };
 
-    ghost number = { λ x. x.tenths };
+    ghost number = { λ x. x.0 };
 
     ghost LOW = { negsuc 93 };
 
@@ -54,20 +52,18 @@ impl Ranged for Temperature {
     const HIGH: i32 = 1_291;
 
     fn number(self) -> i32 {
-        i32::from(self.tenths)
+        i32::from(self.0)
     }
 }
 
 // Solar radiation in tenths of a cal/cm²/d.
 #[derive(Clone, Copy)]
-pub struct Radiation {
-    pub tenths: i16,
-}
+pub struct Radiation(pub i16);
 
 impl Ranged for Radiation {
     ghost range = { limits.radiation };
 
-    ghost number = { λ x. x.tenths };
+    ghost number = { λ x. x.0 };
 
     ghost LOW = { pos 0 };
 
@@ -80,20 +76,18 @@ impl Ranged for Radiation {
     const HIGH: i32 = 12_000;
 
     fn number(self) -> i32 {
-        i32::from(self.tenths)
+        i32::from(self.0)
     }
 }
 
 // A wind run in tenths of a mile.
 #[derive(Clone, Copy)]
-pub struct Wind {
-    pub tenths: i16,
-}
+pub struct Wind(pub i16);
 
 impl Ranged for Wind {
     ghost range = { limits.wind };
 
-    ghost number = { λ x. x.tenths };
+    ghost number = { λ x. x.0 };
 
     ghost LOW = { pos 0 };
 
@@ -106,20 +100,18 @@ impl Ranged for Wind {
     const HIGH: i32 = 9_999;
 
     fn number(self) -> i32 {
-        i32::from(self.tenths)
+        i32::from(self.0)
     }
 }
 
 // A station's clear-day minimum, in cal/cm²/d.
 #[derive(Clone, Copy)]
-pub struct ClearMinimum {
-    pub calories: u16,
-}
+pub struct ClearMinimum(pub u16);
 
 impl Ranged for ClearMinimum {
     ghost range = { limits.clear_minimum };
 
-    ghost number = { λ x. pos x.calories };
+    ghost number = { λ x. pos x.0 };
 
     ghost LOW = { pos 50 };
 
@@ -132,20 +124,18 @@ impl Ranged for ClearMinimum {
     const HIGH: i32 = 200;
 
     fn number(self) -> i32 {
-        i32::from(self.calories)
+        i32::from(self.0)
     }
 }
 
 // A station's elevation, in metres.
 #[derive(Clone, Copy)]
-pub struct Elevation {
-    pub metres: u16,
-}
+pub struct Elevation(pub u16);
 
 impl Ranged for Elevation {
     ghost range = { limits.elevation };
 
-    ghost number = { λ x. pos x.metres };
+    ghost number = { λ x. pos x.0 };
 
     ghost LOW = { pos 0 };
 
@@ -158,15 +148,13 @@ impl Ranged for Elevation {
     const HIGH: i32 = 3_000;
 
     fn number(self) -> i32 {
-        i32::from(self.metres)
+        i32::from(self.0)
     }
 }
 
 // A station's limit of the wind run, in tenths of a mile.
 #[derive(Clone, Copy)]
-pub struct WindLimit {
-    pub tenths: u16,
-}
+pub struct WindLimit(pub u16);
 
 impl WindLimit {
     // The routine's, and the highest.
@@ -176,7 +164,7 @@ impl WindLimit {
 impl Ranged for WindLimit {
     ghost range = { limits.wind_limit };
 
-    ghost number = { λ x. pos x.tenths };
+    ghost number = { λ x. pos x.0 };
 
     ghost LOW = { pos 1_000 };
 
@@ -189,6 +177,6 @@ impl Ranged for WindLimit {
     const HIGH: i32 = WindLimit::ROUTINE as i32;
 
     fn number(self) -> i32 {
-        i32::from(self.tenths)
+        i32::from(self.0)
     }
 }

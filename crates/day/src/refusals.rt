@@ -18,18 +18,9 @@ pub fn bad_station(station: Station) -> bool
     ensures { result ≡ bad_station station }
 {
     station.code.is_bad()
-        || !ClearMinimum {
-            calories: station.minimum,
-        }
-        .in_range()
-        || !Elevation {
-            metres: station.elevation,
-        }
-        .in_range()
-        || !WindLimit {
-            tenths: station.limit,
-        }
-        .in_range()
+        || !ClearMinimum(station.minimum).in_range()
+        || !Elevation(station.elevation).in_range()
+        || !WindLimit(station.limit).in_range()
 }
 
 // Refusal 8, of the six readings and of the earlier means that are present.

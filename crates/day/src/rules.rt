@@ -37,24 +37,12 @@ pub fn some_missing(day: Day) -> bool
 pub fn some_out_of_range(day: Day) -> bool
     ensures { result ≡ any_of (reading_faults day.maximum day.minimum day.mean day.dewpoint day.radiation day.wind) }
 {
-    !Temperature {
-        tenths: day.maximum,
-    }
-    .in_range()
-        || !Temperature {
-            tenths: day.minimum,
-        }
-        .in_range()
-        || !Temperature { tenths: day.mean }.in_range()
-        || !Temperature {
-            tenths: day.dewpoint,
-        }
-        .in_range()
-        || !Radiation {
-            tenths: day.radiation,
-        }
-        .in_range()
-        || !Wind { tenths: day.wind }.in_range()
+    !Temperature(day.maximum).in_range()
+        || !Temperature(day.minimum).in_range()
+        || !Temperature(day.mean).in_range()
+        || !Temperature(day.dewpoint).in_range()
+        || !Radiation(day.radiation).in_range()
+        || !Wind(day.wind).in_range()
 }
 
 // Refusal 8 again: an earlier mean that is present but out of range.
@@ -62,7 +50,7 @@ pub fn mean_out_of_range(mean: Option<i16>) -> bool
     ensures { result ≡ mean_fault mean }
 {
     match mean {
-        Some(f) => !Temperature { tenths: f }.in_range(),
+        Some(f) => !Temperature(f).in_range(),
         None => false,
     }
 }
