@@ -1,6 +1,6 @@
 // The step sheet in whole numbers: what one station day's readings, table entries and earlier means come to. Each function is a line of the
 // document's sheet, in i64; its contract is that line and the range of its result. The lines in specs/StepSheet.antt are functions of plain whole
-// numbers, and each of their thirty quantities has a range of its own: so each range is a clause (`InRange`), and not the invariant of a type.
+// numbers, and each of their quantities has a range of its own: so each range is a clause (`InRange`), and not the invariant of a type.
 #![tactic(auto)]
 
 pub mod clear;
