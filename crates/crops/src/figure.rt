@@ -13,7 +13,7 @@ impl Share {
         requires figure { n ≤ largest_figure }
         ensures { result ≡ share_figure self n }
     {
-        let whole = 100 * (self.length as u64);
-        ((2 * ((n as u64) * (self.above as u64)) + whole) / (2 * whole)) as u32
+        let whole = 100 * u64::from(self.length);
+        ((2 * (u64::from(n) * u64::from(self.above)) + whole) / (2 * whole)) as u32
     }
 }

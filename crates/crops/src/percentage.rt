@@ -7,12 +7,10 @@ use crate::{Crop, Share};
 
 // p_i × (L - r) + p_(i+1) × r.
 fn between(stages: [u8; 11], length: u32, i: usize, r: u32) -> u32
-    requires one_year { length ≤ 364 }
-    requires next_stage { i < 10 }
-    requires remainder { r < length }
+    requires { (length ≤ 364) × (i < 10) × (r < length) }
     ensures { result ≡ get_or stages i 0 * (length - r) + get_or stages (i + 1) 0 * r }
 {
-    (stages[i] as u32) * (length - r) + (stages[i + 1] as u32) * r
+    u32::from(stages[i]) * (length - r) + u32::from(stages[i + 1]) * r
 }
 
 impl Crop {
@@ -24,11 +22,11 @@ impl Crop {
         ensures value { result ≡ share_on self d }
         ensures in_range { ShareInRange result }
     {
-        let length = (self.full - self.start) as u32;
+        let length = u32::from(self.full - self.start);
         let above = if self.full <= d {
-            (self.stages[10] as u32) * length
+            u32::from(self.stages[10]) * length
         } else {
-            let tenfold = ((d - self.start) as u32) * 10;
+            let tenfold = u32::from(d - self.start) * 10;
             between(
                 self.stages,
                 length,
