@@ -14,6 +14,7 @@ impl Share {
         ensures { result ≡ share_figure self n }
     {
         let whole = 100 * u64::from(self.length);
+        // By `as`, since no `From` narrows: it is proved to fit.
         ((2 * (u64::from(n) * u64::from(self.above)) + whole) / (2 * whole)) as u32
     }
 }

@@ -27,6 +27,7 @@ impl Crop {
             u32::from(self.stages[10]) * length
         } else {
             let tenfold = u32::from(d - self.start) * 10;
+            // By `as`, since `usize` has no `From<u32>`.
             between(
                 self.stages,
                 length,

@@ -19,7 +19,7 @@ pub fn year_length(year: u16) -> u16
     }
 }
 
-// Whether the calendar has day d of the year.
+// Whether the calendar has day d of the year. A date is two numbers, as a record has them: `day_number`, `month_of` and `in_season` are defined of two.
 #[tactic(auto, unfolding(crate::specs::Calendar::is_date))]
 pub fn is_date(year: u16, d: u16) -> bool
     ensures { result ≡ is_date year d }

@@ -8,7 +8,8 @@ use crate::inputs::{clear_of, earlier_of, entries_at, readings_of};
 use crate::refusals::standing;
 use crate::{Day, Earlier, Station, Verdict};
 
-// The figure of a day that nothing refuses: the sheet worked.
+// The figure of a day that nothing refuses: the sheet worked. Station, day and earlier means are three parameters, as `judged` and `standing_of` are
+// defined of three: a log's day has its station from the block and its means from the days before.
 pub fn figure(station: Station, day: Day, earlier: Earlier) -> u32
     requires { Answered station day earlier }
     ensures { result ≡ figure_of station day earlier }
@@ -18,6 +19,7 @@ pub fn figure(station: Station, day: Day, earlier: Earlier) -> u32
     let means = earlier_of(earlier);
     let q = clear_of(station, day);
     let limit = i64::from(station.limit);
+    // By `as`, since no `From` narrows: it is proved to fit.
     sheet::figure::figure(x, t, means, q, limit) as u32
 }
 

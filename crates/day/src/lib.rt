@@ -14,7 +14,7 @@ pub mod rules;
 
 use rules::not_capital;
 
-// A station's four capitals.
+// A station's four capitals: four fields, as the C interface hands them in, and as `code_faults`, `code_text` and `lettered` are defined of four.
 #[derive(Clone, Copy)]
 pub struct Code {
     pub first: u8,
@@ -74,7 +74,8 @@ pub enum Refusal {
 #[derive(Clone, Copy, Debug, PartialEq, Eq)]
 pub struct UnknownRefusal(pub u32);
 
-// The figure in 0.0001 inch, or the refusal; or the figure with the mark that the minimum stood for a missing dew point.
+// The figure in 0.0001 inch, or the refusal; or the figure with the mark that the minimum stood for a missing dew point. Three cases and no `Result`:
+// each is a kind of answer (3, 4, 9), and with the mark inside an `Ok` whatever tells them apart would match twice.
 #[derive(Clone, Copy)]
 pub enum Verdict {
     Figure(u32),
@@ -83,7 +84,7 @@ pub enum Verdict {
 }
 
 impl Code {
-    // Whether a letter is no capital.
+    // Whether one of the four is no capital.
     pub fn is_bad(self) -> bool
         ensures { result ≡ any_of (code_faults self.first self.second self.third self.fourth) }
     {
@@ -94,7 +95,7 @@ impl Code {
     }
 }
 
-// Its number on an answer.
+// A refusal's number on an answer.
 impl From<Refusal> for u32 {
     ghost from_gives = { λ why number. number ≡ number_of why };
 
@@ -110,7 +111,7 @@ impl From<Refusal> for u32 {
     }
 }
 
-// The refusal of a number.
+// The refusal that has a number.
 impl TryFrom<u32> for Refusal {
     type Error = UnknownRefusal;
 

@@ -4,7 +4,8 @@ ghost use Rattle.std.specs.Int.Signed.{le_z};
 ghost use Rattle.numbers.specs.Ranges.{Range, in_range};
 ghost use Rattle.sheet.specs.Limits as limits;
 
-// A kind of number that has a range, ends included: its two ends as associated constants, and one in-range function, as document 01 asks.
+// A kind of number that has a range, ends included: its two ends as associated constants, and one in-range function, as document 01 asks. `number`
+// widens, since readings have a sign and a station's fields have none.
 pub trait Ranged: Copy {
     ghost range: { Range };
 
@@ -174,6 +175,7 @@ impl Ranged for WindLimit {
 
     const LOW: i32 = 1_000;
 
+    // By `as`: a constant's value calls no `From`.
     const HIGH: i32 = WindLimit::ROUTINE as i32;
 
     fn number(self) -> i32 {

@@ -5,7 +5,8 @@ ghost use Rattle.day.specs.Rules.{not_capital, any_of, other_marks, missing_mark
 use crate::Day;
 use crate::readings::{Radiation, Ranged, Temperature, Wind};
 
-// The mark of a missing reading.
+// The mark of a missing reading. A reading is a number with this mark and no `Option`: records and the C interface hand it in so, and what is refused is
+// defined of the number (`is_missing`).
 pub const MISSING: i16 = -32_768;
 
 // Whether a letter is no capital.

@@ -43,7 +43,8 @@ fn mean_of(flag: u8, tenths: i16) -> Option<i16>
     (flag != 0).then_some(tenths)
 }
 
-// A day handed in alone. The high half of the result is the refusal's number, or 0 or the mark's for none; the low half is then the figure.
+// A day handed in alone, as numbers: the C interface takes no structs. The high half of the result is the refusal's number, or 0 or the mark's for
+// none; the low half is then the figure.
 #[unsafe(no_mangle)]
 pub extern "C" fn fuortwem_judge(
     first: u8,
@@ -126,13 +127,14 @@ pub extern "C" fn fuortwem_read_log(log: &[u8], answers: &mut [u8]) -> u64
     ensures crop_figures_owed { CropFiguresOwed log.now answers.old answers.new }
 {
     match promises::read_log(log, answers) {
+        // By `as`, since no `From` narrows: what a log comes to fits.
         Ok(written) => packed(NO_REFUSAL, written as u32),
         Err(refused) => packed(u8::from(refused.why).into(), refused.place as u32),
     }
 }
 
-// A log's report as text, with the answers as `fuortwem_read_log` leaves them. The high half of the result is 0 and the low half the length of the text written; or the high
-// half is 12 and the low half the length that the text buffer needs.
+// A log's report as text, with the answers as `fuortwem_read_log` leaves them. The high half of the result is 0 and the low half the length of the text
+// written; or the high half is 12 and the low half the length that the text buffer needs.
 #[unsafe(no_mangle)]
 pub extern "C" fn fuortwem_report(log: &[u8], answers: &mut [u8], text: &mut [u8]) -> u64
     ensures result_value { said_by result ≡ printed_said (printed_in (length text.old) (report_of log.now (length answers.old))) }
@@ -143,6 +145,7 @@ pub extern "C" fn fuortwem_report(log: &[u8], answers: &mut [u8], text: &mut [u8
     ensures crop_figures_owed { CropFiguresOwed log.now answers.old answers.new }
 {
     match text::write_report(log, answers, text) {
+        // By `as` too.
         Ok(printed) => packed(NO_REFUSAL, printed as u32),
         Err(short) => packed(u8::from(Fault::ShortBuffer).into(), short.needed as u32),
     }

@@ -5,7 +5,7 @@ ghost use Rattle.lines.specs.Text.{digit, digits, padded, inches, code_text, fie
 
 use day::{Code, Verdict};
 
-// A lent text and the index of the next byte.
+// A lent text and the index of the next byte. Both, and not the part that is left: who lends it is promised the whole of it (`Written`).
 #[derive(Drop)]
 pub struct Pen<'a> {
     pub text: &'a mut [u8],
@@ -34,11 +34,12 @@ impl Pen<'_> {
         requires { Fits self.old (digit (n % 10) ∷ []) }
         ensures { Wrote self.old (digit (n % 10) ∷ []) self.new }
     {
+        // By `as`, since no `From` narrows: a digit fits.
         self.put_byte(b'0' + (n % 10) as u8);
     }
 
-    // A number without zeros in front: what stands before the last digit first, so that no digit is moved. By hand, since `Display` writes to a
-    // `Formatter` of its own, and what stands in a lent text is promised by the byte.
+    // A number without zeros in front: what stands before the last digit first, so that no digit is moved. By hand: `write!`
+    // promises its text where it answers Ok, and no clause says when it does; this cannot fail.
     fn put_digits(&mut self, n: u64)
         requires { Fits self.old (digits n) }
         ensures { Wrote self.old (digits n) self.new }
@@ -72,7 +73,7 @@ impl Pen<'_> {
         self.put_number(4, n % 10_000);
     }
 
-    // The same, after another field.
+    // The same, after another field. Three functions, as `field` is of three texts: a space, then the field.
     pub(crate) fn put_inches_field(&mut self, n: u64)
         requires { Fits self.old (field (inches n)) }
         ensures { Wrote self.old (field (inches n)) self.new }

@@ -105,7 +105,7 @@ impl Line for SeasonLine {
     }
 }
 
-// The line of a refused log.
+// The line of a refused log, with the refusal's number as it stands there: `refused_line` is defined of every number.
 #[derive(Clone, Copy)]
 pub struct RefusedLine {
     pub number: u8,

@@ -13,7 +13,8 @@ pub fn toward_zero(a: i64, b: i64) -> i64
     a / b
 }
 
-// a / b down, of numbers not below zero: steps that the sheet marks ÷ (down). The unsigned division is the cheaper one.
+// a / b down, of numbers not below zero: steps that the sheet marks ÷ (down). The unsigned division is the cheaper one, and by
+// `as`, since no `From` goes between signed and unsigned: both fit.
 pub fn quotient(a: i64, b: i64) -> i64
     requires { (pos 0 ≤ℤ a) × (pos 0 <ℤ b) }
     ensures { result ≡ a ÷↓ b }

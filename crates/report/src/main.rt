@@ -9,8 +9,9 @@ use std::env::{Env, FillError};
 use std::io;
 use std::io::{Eprint, Print, Read};
 
-// Reads standard input to its end, or as far as there is room, and says how many bytes it read. It goes by what each read answers, and asks none again
-// as `read_exact` does: a connection that was reset fails once, and from then on looks as if it had ended.
+// Reads standard input to its end, or as far as there is room, and says how many bytes it read. By hand: `read_exact` says no length where the input ends
+// before the room does, and `read_to_end` takes a `Vec`. No read that failed is asked again: a connection that was reset fails once, and from then on
+// looks as if it had ended.
 fn read_input(rt: HostRuntime, log: &mut [u8]) -> io::Result<usize>
     ensures { IfOk result (λ size. IsPrefixLen size log.new) }
 {
@@ -40,7 +41,7 @@ fn main(rt: HostRuntime) {
         let _ = rt.eprintln("usage: report < LOG");
         return;
     }
-    // The longest log, and one byte more, so that a longer one is seen to be longer.
+    // The longest log, and one byte more, so that a longer one is seen to be longer. Written out, since no length of an array is computed.
     let mut log = [0u8; 65_537];
     let Ok(size) = read_input(rt, &mut log) else {
         let _ = rt.eprintln("report: standard input cannot be read to its end");

@@ -41,7 +41,7 @@ pub fn weighed(m: i64, p: i64, h: i64, t: i64) -> i64
     rounded(a, heat)
 }
 
-// H, of a day.
+// H, of a day. Each takes what its line in specs/StepSheet.antt does: `heat` asks for no wind limit, `drying` for no earlier means.
 pub fn heat(x: Readings, t: Entries, earlier: Earlier, q: i64) -> i64
     requires { ReadingsInRange x × EntriesInRange t × EarlierInRange earlier × ClearDayAccepted x q }
     ensures { (result ≡ sheet.heat x t earlier q) × InRange quantities.heat result }

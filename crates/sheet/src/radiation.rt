@@ -40,6 +40,7 @@ pub fn emission(maximum: i64, minimum: i64) -> i64
 }
 
 // r, at the dew point f. The first guess is the root of the main term of e, 3.38639·y⁸: it is near, and saves steps.
+// By `as`, since no `From` goes between signed and unsigned: neither is below zero.
 pub fn root(f: i64) -> i64
     requires { InRange quantities.temperature f }
     ensures { (result ≡ sheet.r (sheet.e f)) × InRange quantities.root result }

@@ -7,8 +7,8 @@ ghost use Rattle.text.specs.Each.{AnswersFrom, Gives};
 use answers::Answer;
 use answers::read_back::answer_at;
 
-// Bytes of answers, no more of them than a log's answers can have. Which answers they are no field says, so each contract names them: a whole log's are
-// in order in each block, and a block's by their months.
+// Bytes of answers, no more of them than a log's answers can have. Which answers they are no ghost field can say, since one
+// states a fact and holds no list: so each contract names them, a whole log's in order in each block, and a block's by their months.
 #[derive(Clone, Copy)]
 pub(crate) struct Answers<'a> {
     pub bytes: &'a [u8],
