@@ -7,8 +7,7 @@ use Prim.Native.Nat.{ℕ, ◌+◌, ◌≤◌, ◌<◌}
 use native.Mathlib.Omega.{arith}
 use borrow.Author.Tests.{lt-ltb, le-ltb}
 use lib.Dec.{ltb}
-use lib.ListN.{length, drop, take, length-append, length-drop}
-use Rattle.std.proofs.Math.Seq.{take-append_seam}
+use lib.ListN.{length, drop, length-append, length-drop}
 use Rattle.std.proofs.lemmas.Bool.{cond_both}
 use Rattle.answers.proofs.Overwriting.{laid_front}
 use Rattle.text.specs.Report.{Prints, printed_in, text_over}
@@ -40,18 +39,6 @@ module _ {text before : List ℕ} {n : ℕ} where
         told = ap Ok (omega (arith, w.behind)) ∙ ap (told_by text before) (sym test);
         bytes = w.bytes ∙ laid_front before text ∙ ap (left_by text before) (sym test);
       }
-
--- the bytes of a line that stands in a buffer of its own, copied to the front
-pub copied_whole : {text before own-before own bytes : List ℕ} {n : ℕ} → AtFront own-before text own n → n ≤ length before → bytes ≡ take n own
-    → Prints text before (Ok n) (bytes ++ drop n before)
-copied_whole {text} {before} {own-before} {own} {bytes} {n} line fits e =
-    let test = le-ltb (length before) (length text) (omega (arith, line.size, fits)) in
-    let whole : bytes ≡ text =
-    e ∙ ap (λ (k : ℕ). take k own) line.size ∙ ap (take (length text)) line.bytes ∙ take-append_seam text (drop (length text) own-before) in
-    record {
-      told = ap Ok line.size ∙ ap (told_by text before) (sym test);
-      bytes = ap (λ (k : ℕ). bytes ++ drop k before) line.size ∙ ap (λ (l : List ℕ). l ++ drop (length text) before) whole ∙ ap (left_by text before) (sym test);
-    }
 
 -- a buffer of just the length is long enough, and one of a byte less is not
 pub just_enough : (text : List ℕ) → printed_in (length text) text ≡ Ok (length text)
