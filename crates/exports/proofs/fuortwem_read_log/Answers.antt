@@ -10,27 +10,10 @@ overflow_cast-written c = record { fits = written_small _ _ c.in-Ok.ensures.read
 pub overflow_cast-refused : goal.overflow_cast-refused
 overflow_cast-refused c = record { fits = refused_small _ _ c.in-Err.ensures.read.outcome }
 
-pub returns-in-Ok : goal.returns-in-Ok
-returns-in-Ok c =
-    let read = c.in-Ok.ensures in
-    let said = c.packed.ensures ∙ ap outcome_said read.read.outcome in
-    record {
-      result_value = said;
-      length_said = length_said _ _ _ said;
-      answers_after = read.read.written;
-      figures_owed = read.figures_owed;
-      crop_figures_owed = read.crop_figures_owed;
-    }
+pub returns-in-Ok-clause-length_said : goal.returns-in-Ok-clause-length_said
+returns-in-Ok-clause-length_said c = length_said _ _ _ (c.packed.ensures ∙ ap outcome_said c.in-Ok.ensures.read.outcome)
 
-pub returns-in-Err : goal.returns-in-Err
-returns-in-Err c =
-    let read = c.in-Err.ensures in
-    let outcome = read.read.outcome in
-    let said = c.packed-in-Err.ensures ∙ refused_said _ _ (c.into.ensures ∙ c.from.ensures) outcome ∙ ap outcome_said outcome in
-    record {
-      result_value = said;
-      length_said = length_said _ _ _ said;
-      answers_after = read.read.written;
-      figures_owed = read.figures_owed;
-      crop_figures_owed = read.crop_figures_owed;
-    }
+pub returns-in-Err-clause-length_said : goal.returns-in-Err-clause-length_said
+returns-in-Err-clause-length_said c =
+    let outcome = c.in-Err.ensures.read.outcome in
+    length_said _ _ _ (c.packed-in-Err.ensures ∙ refused_said _ _ (c.into.ensures ∙ c.from.ensures) outcome ∙ ap outcome_said outcome)

@@ -9,7 +9,7 @@ use Rattle.std.specs.Prelude.{Result}
 use Rattle.text.specs.declared.TooShort.{TooShort}
 use Rattle.text.proofs.LongEnough.{report_most}
 use Rattle.text.proofs.Prints.{size_in, printed_size}
-use Rattle.exports.specs.Told.{said, printed_said, ReportSaid}
+use Rattle.exports.specs.Told.{said, ReportSaid}
 use Rattle.exports.proofs.fuortwem_report.Goals as goal
 
 small : (s : List ℕ) (size : ℕ) {before after : List ℕ} (p : Result ℕ TooShort) → AreBytes s → Prints (report_of s size) before p after → size_in p < 4294967296
@@ -21,30 +21,11 @@ overflow_cast-printed c = record { fits = small _ _ _ (λ i. omega (arith, c.typ
 pub overflow_cast-short : goal.overflow_cast-short
 overflow_cast-short c = record { fits = small _ _ _ (λ i. omega (arith, c.type_inv.log i)) c.in-Err.ensures.prints }
 
-pub returns-in-Ok : goal.returns-in-Ok
+pub returns-in-Ok-clause-report_said : goal.returns-in-Ok-clause-report_said
 unfolding ReportSaid
-returns-in-Ok c =
-    let report = c.in-Ok.ensures in
-    let said = c.packed.ensures in
-    record {
-      result_value = said ∙ ap printed_said report.prints.told;
-      text_after = report.prints.bytes;
-      report_said = (_, said, report.report_owed);
-      answers_after = report.answers_after;
-      figures_owed = report.figures_owed;
-      crop_figures_owed = report.crop_figures_owed;
-    }
+returns-in-Ok-clause-report_said c = (_, c.packed.ensures, c.in-Ok.ensures.report_owed)
 
-pub returns-in-Err : goal.returns-in-Err
+pub returns-in-Err-clause-report_said : goal.returns-in-Err-clause-report_said
 unfolding ReportSaid
-returns-in-Err c =
-    let report = c.in-Err.ensures in
-    let said = c.packed-in-Err.ensures ∙ ap (λ (k : ℕ). said k c.in-Err.short.needed) (c.into.ensures ∙ c.from.ensures) in
-    record {
-      result_value = said ∙ ap printed_said report.prints.told;
-      text_after = report.prints.bytes;
-      report_said = (_, said, report.report_owed);
-      answers_after = report.answers_after;
-      figures_owed = report.figures_owed;
-      crop_figures_owed = report.crop_figures_owed;
-    }
+returns-in-Err-clause-report_said c =
+    (_, c.packed-in-Err.ensures ∙ ap (λ (k : ℕ). said k c.in-Err.short.needed) (c.into.ensures ∙ c.from.ensures), c.in-Err.ensures.report_owed)
