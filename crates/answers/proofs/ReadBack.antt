@@ -15,8 +15,8 @@ use Rattle.day.specs.Rules.{number_of, RefusalOf}
 use Rattle.day.specs.declared.Code.{Code}
 use Rattle.day.specs.declared.Refusal.{Refusal}
 use Rattle.day.specs.declared.UnknownRefusal.{UnknownRefusal}
-use Rattle.day.specs.declared.Verdict.{Verdict}
-use Rattle.day.specs.declared.Verdict.TheVariants.{Figure, Refused, Estimated}
+use Rattle.day.specs.Judgement.{Verdict}
+use Rattle.day.specs.declared.Figure.TheVariants.{Measured, Estimated}
 use Rattle.day.proofs.Numbers.{refusal_told}
 use Rattle.records.specs.Bytes.{word_at}
 use Rattle.records.specs.Record.{code_at}
@@ -107,9 +107,9 @@ module _ {s : List ℕ} {at : ℕ} where
 
 abbrev kind_in : Answer → Kind
 kind_in (answer.Station c) = kind.Station
-kind_in (answer.Day year d (Figure n)) = kind.Figure
-kind_in (answer.Day year d (Refused why)) = kind.Refusal
-kind_in (answer.Day year d (Estimated n)) = kind.Estimate
+kind_in (answer.Day year d (Ok (Measured n))) = kind.Figure
+kind_in (answer.Day year d (Ok (Estimated n))) = kind.Estimate
+kind_in (answer.Day year d (Err why)) = kind.Refusal
 kind_in (answer.Crop c n) = kind.Crop
 
 -- how many bytes an answer has, by its kind's number
@@ -123,9 +123,9 @@ number_told {n} {r} {k} h e = sym (MatchResult-at_ok (λ k. kind_number k ≡ n)
 module _ {s : List ℕ} {at : ℕ} where
   first_byte : (a : Answer) → StandsAt s at a → get_or s at 0 ≡ kind_number (kind_in a)
   first_byte (answer.Station c) h = (station_tells h).kind
-  first_byte (answer.Day year d (Figure n)) h = (day_tells h).kind
-  first_byte (answer.Day year d (Refused why)) h = (day_tells h).kind
-  first_byte (answer.Day year d (Estimated n)) h = (day_tells h).kind
+  first_byte (answer.Day year d (Ok (Measured n))) h = (day_tells h).kind
+  first_byte (answer.Day year d (Ok (Estimated n))) h = (day_tells h).kind
+  first_byte (answer.Day year d (Err why)) h = (day_tells h).kind
   first_byte (answer.Crop c n) h = (crop_tells h).kind
 
   -- an answer has a kind
@@ -135,9 +135,9 @@ module _ {s : List ℕ} {at : ℕ} where
 
   inside : (a : Answer) → StandsAt s at a → at + size_by (kind_number (kind_in a)) ≤ length s
   inside (answer.Station c) there = (station_tells there).inside
-  inside (answer.Day year d (Figure n)) there = (day_tells there).inside
-  inside (answer.Day year d (Refused why)) there = (day_tells there).inside
-  inside (answer.Day year d (Estimated n)) there = (day_tells there).inside
+  inside (answer.Day year d (Ok (Measured n))) there = (day_tells there).inside
+  inside (answer.Day year d (Ok (Estimated n))) there = (day_tells there).inside
+  inside (answer.Day year d (Err why)) there = (day_tells there).inside
   inside (answer.Crop c n) there = (crop_tells there).inside
 
   -- all its bytes are there
@@ -150,18 +150,18 @@ module _ {s : List ℕ} {at : ℕ} where
   -- kind 5
   pub is_station : get_or s at 0 ≡ 5 → {c : Code} → c ≡ code_at s (at + 1) → (a : Answer) → StandsAt s at a → answer.Station c ≡ a
   is_station five is (answer.Station c) h = ap answer.Station (is ∙ (station_tells h).code)
-  is_station five is (answer.Day year d (Figure n)) h = absurd (omega (arith, five, (day_tells h).kind))
-  is_station five is (answer.Day year d (Refused why)) h = absurd (omega (arith, five, (day_tells h).kind))
-  is_station five is (answer.Day year d (Estimated n)) h = absurd (omega (arith, five, (day_tells h).kind))
+  is_station five is (answer.Day year d (Ok (Measured n))) h = absurd (omega (arith, five, (day_tells h).kind))
+  is_station five is (answer.Day year d (Ok (Estimated n))) h = absurd (omega (arith, five, (day_tells h).kind))
+  is_station five is (answer.Day year d (Err why)) h = absurd (omega (arith, five, (day_tells h).kind))
   is_station five is (answer.Crop c n) h = absurd (omega (arith, five, (crop_tells h).kind))
 
   -- kind 7
   pub is_crop : get_or s at 0 ≡ 7 → {c : Code} {n : ℕ} → c ≡ code_at s (at + 1) → n ≡ word_at s (at + 5) * 65536 + word_at s (at + 5 + 2)
       → (a : Answer) → StandsAt s at a → answer.Crop c n ≡ a
   is_crop seven is_code is_value (answer.Station c) h = absurd (omega (arith, seven, (station_tells h).kind))
-  is_crop seven is_code is_value (answer.Day year d (Figure n)) h = absurd (omega (arith, seven, (day_tells h).kind))
-  is_crop seven is_code is_value (answer.Day year d (Refused why)) h = absurd (omega (arith, seven, (day_tells h).kind))
-  is_crop seven is_code is_value (answer.Day year d (Estimated n)) h = absurd (omega (arith, seven, (day_tells h).kind))
+  is_crop seven is_code is_value (answer.Day year d (Ok (Measured n))) h = absurd (omega (arith, seven, (day_tells h).kind))
+  is_crop seven is_code is_value (answer.Day year d (Ok (Estimated n))) h = absurd (omega (arith, seven, (day_tells h).kind))
+  is_crop seven is_code is_value (answer.Day year d (Err why)) h = absurd (omega (arith, seven, (day_tells h).kind))
   is_crop seven is_code is_value (answer.Crop c n) h =
       let of_code = is_code ∙ (crop_tells h).code in
       let of_value = is_value ∙ (crop_tells h).value in
@@ -176,37 +176,37 @@ module _ {s : List ℕ} {at : ℕ} where
         (λ i. answer.Day (of-year i) (of-d i) (e i))
 
     -- kind 3
-    pub is_figure : get_or s at 0 ≡ 3 → (a : Answer) → StandsAt s at a → answer.Day year d (Figure n) ≡ a
+    pub is_figure : get_or s at 0 ≡ 3 → (a : Answer) → StandsAt s at a → answer.Day year d (Ok (Measured n)) ≡ a
     is_figure three (answer.Station c) h = absurd (other (station_tells h).kind)
-    is_figure three (answer.Day y e (Figure m)) h = same (day_tells h) (ap Figure (is_value ∙ (day_tells h).value))
-    is_figure three (answer.Day y e (Refused why)) h = absurd (omega (arith, three, (day_tells h).kind))
-    is_figure three (answer.Day y e (Estimated m)) h = absurd (omega (arith, three, (day_tells h).kind))
+    is_figure three (answer.Day y e (Ok (Measured m))) h = same (day_tells h) (ap (λ (n : ℕ). Ok (Measured n)) (is_value ∙ (day_tells h).value))
+    is_figure three (answer.Day y e (Ok (Estimated m))) h = absurd (omega (arith, three, (day_tells h).kind))
+    is_figure three (answer.Day y e (Err why)) h = absurd (omega (arith, three, (day_tells h).kind))
     is_figure three (answer.Crop c m) h = absurd (no-crop (crop_tells h).kind)
 
     -- kind 9
-    pub is_estimate : get_or s at 0 ≡ 9 → (a : Answer) → StandsAt s at a → answer.Day year d (Estimated n) ≡ a
+    pub is_estimate : get_or s at 0 ≡ 9 → (a : Answer) → StandsAt s at a → answer.Day year d (Ok (Estimated n)) ≡ a
     is_estimate nine (answer.Station c) h = absurd (other (station_tells h).kind)
-    is_estimate nine (answer.Day y e (Figure m)) h = absurd (omega (arith, nine, (day_tells h).kind))
-    is_estimate nine (answer.Day y e (Refused why)) h = absurd (omega (arith, nine, (day_tells h).kind))
-    is_estimate nine (answer.Day y e (Estimated m)) h = same (day_tells h) (ap Estimated (is_value ∙ (day_tells h).value))
+    is_estimate nine (answer.Day y e (Ok (Measured m))) h = absurd (omega (arith, nine, (day_tells h).kind))
+    is_estimate nine (answer.Day y e (Ok (Estimated m))) h = same (day_tells h) (ap (λ (n : ℕ). Ok (Estimated n)) (is_value ∙ (day_tells h).value))
+    is_estimate nine (answer.Day y e (Err why)) h = absurd (omega (arith, nine, (day_tells h).kind))
     is_estimate nine (answer.Crop c m) h = absurd (no-crop (crop_tells h).kind)
 
     -- kind 4
     pub is_refusal : get_or s at 0 ≢ 3 → get_or s at 0 ≢ 9 → {r : Refusal} → ((why : Refusal) → n ≡ number_of why → r ≡ why)
-        → (a : Answer) → StandsAt s at a → answer.Day year d (Refused r) ≡ a
+        → (a : Answer) → StandsAt s at a → answer.Day year d (Err r) ≡ a
     is_refusal no-figure no-estimate is (answer.Station c) h = absurd (other (station_tells h).kind)
-    is_refusal no-figure no-estimate is (answer.Day y e (Figure m)) h = absurd (no-figure (day_tells h).kind)
-    is_refusal no-figure no-estimate is (answer.Day y e (Refused why)) h = same (day_tells h) (ap Refused (is why (is_value ∙ (day_tells h).value)))
-    is_refusal no-figure no-estimate is (answer.Day y e (Estimated m)) h = absurd (no-estimate (day_tells h).kind)
+    is_refusal no-figure no-estimate is (answer.Day y e (Ok (Measured m))) h = absurd (no-figure (day_tells h).kind)
+    is_refusal no-figure no-estimate is (answer.Day y e (Ok (Estimated m))) h = absurd (no-estimate (day_tells h).kind)
+    is_refusal no-figure no-estimate is (answer.Day y e (Err why)) h = same (day_tells h) (ap Err (is why (is_value ∙ (day_tells h).value)))
     is_refusal no-figure no-estimate is (answer.Crop c m) h = absurd (no-crop (crop_tells h).kind)
 
   -- a refusal's number is there
   pub some_refusal : get_or s at 0 ≡ 4 → {n : ℕ} → n ≡ word_at s (at + 5) * 65536 + word_at s (at + 5 + 2) → (r : Result Refusal UnknownRefusal)
       → RefusalOf n r → (a : Answer) → StandsAt s at a → IsOk r
   some_refusal four is_value r told (answer.Station c) h = absurd (omega (arith, four, (station_tells h).kind))
-  some_refusal four is_value r told (answer.Day y e (Figure m)) h = absurd (omega (arith, four, (day_tells h).kind))
-  some_refusal four is_value r told (answer.Day y e (Refused why)) h = rw (refusal_told why r (is_value ∙ (day_tells h).value) told) refl
-  some_refusal four is_value r told (answer.Day y e (Estimated m)) h = absurd (omega (arith, four, (day_tells h).kind))
+  some_refusal four is_value r told (answer.Day y e (Ok (Measured m))) h = absurd (omega (arith, four, (day_tells h).kind))
+  some_refusal four is_value r told (answer.Day y e (Ok (Estimated m))) h = absurd (omega (arith, four, (day_tells h).kind))
+  some_refusal four is_value r told (answer.Day y e (Err why)) h = rw (refusal_told why r (is_value ∙ (day_tells h).value) told) refl
   some_refusal four is_value r told (answer.Crop c m) h = absurd (omega (arith, four, (crop_tells h).kind))
 
 -- the refusal that was found is the one with the number

@@ -7,7 +7,7 @@ ghost use Rattle.answers.specs.declared.Answer.TheVariants as answer;
 
 use crate::Answer;
 use crate::kind::Kind;
-use day::{Refusal, Verdict};
+use day::{Figure, Refusal, Verdict};
 use records::bytes::{code_at, word};
 
 // The number of four bytes at i, the high ones first.
@@ -35,11 +35,11 @@ pub fn answer_at(answers: &[u8], at: usize) -> Answer
     match Kind::try_from(answers[at]).unwrap() {
         Kind::Station => Answer::Station(code_at(answers, at + 1)),
         Kind::Crop => Answer::Crop(code_at(answers, at + 1), four_at(answers, at + 5)),
-        Kind::Figure => day_at(answers, at, Verdict::Figure(four_at(answers, at + 5))),
-        Kind::Estimate => day_at(answers, at, Verdict::Estimated(four_at(answers, at + 5))),
+        Kind::Figure => day_at(answers, at, Ok(Figure::Measured(four_at(answers, at + 5)))),
+        Kind::Estimate => day_at(answers, at, Ok(Figure::Estimated(four_at(answers, at + 5)))),
         Kind::Refusal => {
             let why = Refusal::try_from(four_at(answers, at + 5)).unwrap();
-            day_at(answers, at, Verdict::Refused(why))
+            day_at(answers, at, Err(why))
         }
     }
 }

@@ -5,7 +5,7 @@ use mathlib.Core.Bool.{false}
 use mathlib.Core.List.{List, [], map}
 use Prim.Native.Nat.{ℕ}
 use lib.IntN.{ℤ, pos}
-use Rattle.std.specs.Prelude.{Option, Some, None}
+use Rattle.std.specs.Prelude.{Option, Some, None, Ok}
 use Rattle.ratios.specs.Ratios.{◌over◌}
 use Rattle.numbers.specs.Fractions.{from_ℤ, ◌/ℚ◌, ◌-ℚ◌, ◌*ℚ◌, ◌≤ℚ◌, abs_ℚ, ℚ, fraction}
 use Rattle.numbers.proofs.Order.{≤ℚ_ratio, ≤ℚ_trans}
@@ -117,7 +117,7 @@ module _ (st : Station) (day : Day) (earlier : Earlier) (constants : SignedConst
 
 -- the sharper bound, of a judge's own figures
 pub judged_within_proved : (st : Station) (day : Day) (earlier : Earlier) → SignedConstants st → Answered st (as_judged day) earlier →
-    (n : ℕ) × (judged st day earlier ≡ with_mark day n) × Within proved_bound st (as_judged day) earlier n
+    (n : ℕ) × (judged st day earlier ≡ Ok (with_mark day n)) × Within proved_bound st (as_judged day) earlier n
 judged_within_proved st day earlier constants answered =
     (figure_of st (as_judged day) earlier, answered_figure st day earlier answered, within_proved st (as_judged day) earlier constants answered)
 

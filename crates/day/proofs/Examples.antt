@@ -26,8 +26,8 @@ use Rattle.day.specs.declared.Station.{Station}
 use Rattle.day.specs.declared.Day.{Day}
 use Rattle.day.specs.declared.Earlier.{Earlier}
 use Rattle.day.specs.declared.Refusal.TheVariants.{AboveClear}
-use Rattle.day.specs.declared.Verdict.{Verdict}
-use Rattle.day.specs.declared.Verdict.TheVariants.{Figure, Estimated}
+use Rattle.day.specs.declared.Figure.{Figure}
+use Rattle.day.specs.declared.Figure.TheVariants.{Measured, Estimated}
 use Rattle.day.proofs.DayBound.{within_bound}
 use Rattle.day.proofs.Edges.{lidw_with}
 use Rattle.day.proofs.FigureWith.{figure_with}
@@ -89,9 +89,9 @@ unfolding sheet.r
 root_at f n root is h = ap whole_root is ∙ sym (root_is n root h)
 
 -- what is shown of a day: it is answered, with the figure n, marked or not, and n is within the bound
-pub record Worked (st : Station) (day : Day) (earlier : Earlier) (verdict : ℕ → Verdict) (n : ℕ) : Type 0 where
+pub record Worked (st : Station) (day : Day) (earlier : Earlier) (marked : ℕ → Figure) (n : ℕ) : Type 0 where
   pub answered : Answered st (as_judged day) earlier
-  pub told : judged st day earlier ≡ verdict n
+  pub told : judged st day earlier ≡ Ok (marked n)
   pub bound : WithinBound st (as_judged day) earlier n
 
 -- the sheet's figure, of the entries and the root put in
@@ -107,13 +107,13 @@ figure_as_lem st day earlier entries-are is = ap₂ (figure_as st day earlier) e
 -- by computation: none of the refusals holds, and the figure is n, with the mark that the day has
 pub worked : (st : Station) (day : Day) (earlier : Earlier) (t : Entries) → entries_of st (as_judged day) ≡ t → SignedConstants st → {root : ℤ} →
     sheet.r (sheet.e (as_judged day).dewpoint) ≡ root → standing_of st (as_judged day) earlier ≡ Ok tt → {n : ℕ} →
-    figure_as st (as_judged day) earlier t root ≡ n → {verdict : ℕ → Verdict} → with_mark day n ≡ verdict n → Worked st day earlier verdict n
+    figure_as st (as_judged day) earlier t root ≡ n → {marked : ℕ → Figure} → with_mark day n ≡ marked n → Worked st day earlier marked n
 worked st day earlier t entries-are constants is none {n} same mark =
     let answered = stands_answered st (as_judged day) earlier none in
     let figure : figure_of st (as_judged day) earlier ≡ n = figure_as_lem st (as_judged day) earlier entries-are is ∙ same in
     record {
       answered = answered;
-      told = answered_figure st day earlier answered ∙ ap (with_mark day) figure ∙ mark;
+      told = answered_figure st day earlier answered ∙ ap Ok (ap (with_mark day) figure ∙ mark);
       bound = subst (WithinBound st (as_judged day) earlier) figure (within_bound st (as_judged day) earlier constants answered);
     }
 
@@ -185,14 +185,14 @@ roots = (
 
 -- the two days, and the second after three means
 abbrev Days : Type 0
-Days = Worked station winter_day winter_means Figure 0 × Worked station summer_day summer_means Figure 3_518 × Worked station summer_day three_means Figure 3_356
+Days = Worked station winter_day winter_means Measured 0 × Worked station summer_day summer_means Measured 3_518 × Worked station summer_day three_means Measured 3_356
 
 -- the windy day with the limits 1,500, 1,200 and 1,000; at the last the figure is that of the summer day, whose wind run is 1,000
 abbrev Limits : Type 0
 Limits =
-    Worked station windy_day summer_means Figure 3_925
-    × Worked (limited 1_200) windy_day summer_means Figure 3_680
-    × Worked (limited 1_000) windy_day summer_means Figure 3_518
+    Worked station windy_day summer_means Measured 3_925
+    × Worked (limited 1_200) windy_day summer_means Measured 3_680
+    × Worked (limited 1_000) windy_day summer_means Measured 3_518
 
 -- the summer day without its dew point: with the minimum, 55 °F, in its place
 abbrev Estimates : Type 0

@@ -5,14 +5,13 @@ use Prim.Native.Nat.{ℕ}
 use native.Mathlib.Omega.{arith}
 use Rattle.std.specs.Prelude.{Result, Ok, Err}
 use Rattle.equation.proofs.FigureLimit as sheet-limit
-use Rattle.day.specs.Judgement.{readings_of, entries_of, clear_of, means_of, earlier_of, figure_of, standing_of, as_judged, with_mark, verdict_with, judged}
+use Rattle.day.specs.Judgement.{readings_of, entries_of, clear_of, means_of, earlier_of, figure_of, standing_of, as_judged, with_mark, verdict_with, judged, Verdict}
 use Rattle.day.specs.Bound.{SignedConstants, FigureAtMost, FigureInRange}
 use Rattle.day.specs.declared.Station.{Station}
 use Rattle.day.specs.declared.Day.{Day}
 use Rattle.day.specs.declared.Earlier.{Earlier}
 use Rattle.day.specs.declared.Refusal.{Refusal}
-use Rattle.day.specs.declared.Verdict.{Verdict}
-use Rattle.day.specs.declared.Verdict.TheVariants.{Figure, Refused, Estimated}
+use Rattle.day.specs.declared.Figure.TheVariants.{Measured, Estimated}
 use Rattle.day.proofs.Marks.{either_way}
 use Rattle.day.proofs.Standings.{stands_answered}
 use Rattle.day.proofs.DayBound.{constants_of, accepted}
@@ -34,12 +33,12 @@ figure_most st x earlier constants = by (standing_of st (as_judged x) earlier) r
         let most =
         sheet-limit.figure_most (readings_of y) (entries_of st y) (means_of earlier) (constants_of st y)
         (accepted st y earlier constants (stands_answered st y earlier p)) in
-        either_way (FigureAtMost most_figure) x most most
+        either_way (λ f. FigureAtMost most_figure (Ok f)) x most most
 
 wider : (v : Verdict) → FigureAtMost most_figure v → FigureInRange v
-wider (Figure n) h = omega arith
-wider (Refused r) h = tt
-wider (Estimated n) h = omega arith
+wider (Ok (Measured n)) h = omega arith
+wider (Ok (Estimated n)) h = omega arith
+wider (Err r) h = tt
 
 pub figure_in_range : (st : Station) (x : Day) (earlier : Earlier) → SignedConstants st → FigureInRange (judged st x earlier)
 figure_in_range st x earlier constants = wider (judged st x earlier) (figure_most st x earlier constants)

@@ -5,6 +5,7 @@ use mathlib.Core.Path.{◌≡◌, refl, sym, ◌∙◌, ap, subst}
 use Prim.Native.Nat.{ℕ}
 use native.Mathlib.Omega.{arith}
 use lib.IntN.{pos}
+use Rattle.std.specs.Prelude.{Ok, Err}
 use Rattle.ratios.specs.Ratios.{◌over◌}
 use Rattle.numbers.specs.Fractions.{ℚ, from_ℤ, ◌/ℚ◌, ◌+ℚ◌, ◌-ℚ◌, -ℚ◌, ◌*ℚ◌, ◌≤ℚ◌, abs_ℚ, nonneg, Near}
 use Rattle.numbers.proofs.Bounds.{bounded_abs, bounded_weaken}
@@ -12,13 +13,12 @@ use Rattle.numbers.proofs.Near.{near, near_trans, near_sym}
 use Rattle.equation.proofs.Ends.{temperature_ends}
 use Rattle.equation.proofs.FigureLimit.{half_unit_self, vapour_root}
 use Rattle.day.specs.Bound.{OfEveryValue, Within, WithinBound, SignedConstants, FigureOwed, JudgesWithinBound}
-use Rattle.day.specs.Judgement.{readings_of, Answered, as_judged, with_mark}
+use Rattle.day.specs.Judgement.{readings_of, Answered, as_judged, with_mark, Verdict}
 use Rattle.day.specs.declared.Station.{Station}
 use Rattle.day.specs.declared.Day.{Day}
 use Rattle.day.specs.declared.Earlier.{Earlier}
 use Rattle.day.specs.declared.Refusal.{Refusal}
-use Rattle.day.specs.declared.Verdict.{Verdict}
-use Rattle.day.specs.declared.Verdict.TheVariants.{Figure, Refused, Estimated}
+use Rattle.day.specs.declared.Figure.TheVariants.{Measured, Estimated}
 use Rattle.day.proofs.DayBound.{accepted}
 use Rattle.day.proofs.Examples.{station, constants, summer_day, summer_means, days}
 use Rattle.day.proofs.Marks.{either_way}
@@ -51,14 +51,14 @@ two_figures st x earlier signed answered n m a b =
 
 -- 1 for a figure, 0 for a refusal; and the figure
 abbrev figured : Verdict → ℕ
-figured (Figure n) = 1
-figured (Refused r) = 0
-figured (Estimated n) = 1
+figured (Ok (Measured n)) = 1
+figured (Ok (Estimated n)) = 1
+figured (Err r) = 0
 
 abbrev figure_in : Verdict → ℕ
-figure_in (Figure n) = n
-figure_in (Refused r) = 0
-figure_in (Estimated n) = n
+figure_in (Ok (Measured n)) = n
+figure_in (Ok (Estimated n)) = n
+figure_in (Err r) = 0
 
 -- 0 and 0.3518 inch are not that near
 pub apart : Near (inches 0) (inches 3_518) (6 /ℚ 100000 +ℚ 6 /ℚ 100000) → ⊥
@@ -74,20 +74,20 @@ pub not_two_off : WithinBound station (as_judged summer_day) summer_means 3_520 
 not_two_off w = two_apart (two_figures station (as_judged summer_day) summer_means constants days.1.answered 3_520 3_518 w days.1.bound)
 
 module _ (judge : Station → Day → Earlier → Verdict) (met : JudgesWithinBound judge) where
-  owed : (n : ℕ) × (judge station summer_day summer_means ≡ with_mark summer_day n) × WithinBound station (as_judged summer_day) summer_means n
+  owed : (n : ℕ) × (judge station summer_day summer_means ≡ Ok (with_mark summer_day n)) × WithinBound station (as_judged summer_day) summer_means n
   unfolding JudgesWithinBound FigureOwed
   owed = met station summer_day summer_means constants days.1.answered
 
   -- "One refusing all days"
-  pub not_all_refused : (r : Refusal) → judge station summer_day summer_means ≡ Refused r → ⊥
+  pub not_all_refused : (r : Refusal) → judge station summer_day summer_means ≡ Err r → ⊥
   not_all_refused r says =
-      let marked : figured (with_mark summer_day owed.0) ≡ 1 = either_way (λ v. figured v ≡ 1) summer_day refl refl in
+      let marked : figured (Ok (with_mark summer_day owed.0)) ≡ 1 = either_way (λ f. figured (Ok f) ≡ 1) summer_day refl refl in
       let one : ◌≡◌ {A = ℕ} 0 1 = ap figured (sym says) ∙ ap figured owed.1 ∙ marked in absurd (omega (arith, one))
 
   -- "one printing 0 for all"
-  pub not_all_zero : judge station summer_day summer_means ≡ Figure 0 → ⊥
+  pub not_all_zero : judge station summer_day summer_means ≡ Ok (Measured 0) → ⊥
   not_all_zero says =
-      let marked : figure_in (with_mark summer_day owed.0) ≡ owed.0 = either_way (λ v. figure_in v ≡ owed.0) summer_day refl refl in
+      let marked : figure_in (Ok (with_mark summer_day owed.0)) ≡ owed.0 = either_way (λ f. figure_in (Ok f) ≡ owed.0) summer_day refl refl in
       let zero_is : owed.0 ≡ 0 = sym (ap figure_in (sym says) ∙ ap figure_in owed.1 ∙ marked) in
       apart (two_figures station (as_judged summer_day) summer_means constants days.1.answered 0 3_518
       (subst (WithinBound station (as_judged summer_day) summer_means) zero_is owed.2) days.1.bound)

@@ -53,7 +53,7 @@ module _ (st : Station) (day : Day) (earlier : Earlier) where
   stands_as_judged told same = told ∙ ap (λ (y : Day). standing_of st y earlier) same
 
   -- that day has the figure, and the mark is the day's own
-  pub answered_figure : Answered st (as_judged day) earlier → judged st day earlier ≡ with_mark day (figure_of st (as_judged day) earlier)
+  pub answered_figure : Answered st (as_judged day) earlier → judged st day earlier ≡ Ok (with_mark day (figure_of st (as_judged day) earlier))
   unfolding judged standing_of Answered
   answered_figure answered =
       ap (λ (s : Result (Unit {0}) Refusal). verdict_with s (with_mark day (figure_of st (as_judged day) earlier)))

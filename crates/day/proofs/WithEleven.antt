@@ -18,15 +18,14 @@ use Rattle.sheet.specs.Accepted.{ReadingsInRange}
 use Rattle.sheet.specs.Limits.{temperature}
 use Rattle.sheet.specs.StepSheet as sheet
 use Rattle.sheet.specs.declared.Entries.{Entries}
-use Rattle.day.specs.Judgement.{readings_of, entries_of, clear_of, earlier_of, figure_of, standing_of, as_judged, with_mark, verdict_with, judged, Answered}
+use Rattle.day.specs.Judgement.{readings_of, entries_of, clear_of, earlier_of, figure_of, standing_of, as_judged, with_mark, verdict_with, judged, Answered, Verdict}
 use Rattle.day.specs.Rules.{number_of}
 use Rattle.day.specs.declared.Station.{Station}
 use Rattle.day.specs.declared.Day.{Day}
 use Rattle.day.specs.declared.Earlier.{Earlier}
+use Rattle.day.specs.declared.Figure.{Figure}
 use Rattle.day.specs.declared.Refusal.{Refusal}
 use Rattle.day.specs.declared.Refusal.TheVariants.{StationField, BadDate, Missing, OutOfRange, OutOfOrder, AboveClear}
-use Rattle.day.specs.declared.Verdict.{Verdict}
-use Rattle.day.specs.declared.Verdict.TheVariants.{Refused}
 use Rattle.day.proofs.FigureWith.{figure_with}
 use Rattle.day.proofs.LeastValues.{Place, PlaceAccepted, g_at, distance_least, slope_least, psychrometric_least}
 use Rattle.day.proofs.Passed.{elevation_high, readings_in}
@@ -59,9 +58,9 @@ pub data Former : Type 0 where
   eleven : Former
 
 -- "the first of 3, 6 (calendar only), 7, 8, 9, 10, 11, in that order", or the figure
-abbrev formerly : Result (Unit {0}) Refusal → Bool → Verdict → Former
-formerly (Err r) held v = still (Refused r)
-formerly (Ok done) held v = cond held eleven (still v)
+abbrev formerly : Result (Unit {0}) Refusal → Bool → Figure → Former
+formerly (Err r) held f = still (Err r)
+formerly (Ok done) held f = cond held eleven (still (Ok f))
 
 pub judged_before : Station → Day → Earlier → Former
 judged_before st x earlier =
@@ -111,7 +110,7 @@ none_moved st x earlier = by (standing_of st (as_judged x) earlier) refl
     by : (s : Result (Unit {0}) Refusal) → standing_of st (as_judged x) earlier ≡ s →
         formerly s (eleven_held st y) (with_mark x (figure_before st y earlier)) ≡ still (verdict_with s (with_mark x (figure_of st y earlier)))
     by (Err r) p = refl
-    by (Ok done) p = λ i. cond (eleven_never st y earlier p i) eleven (still (with_mark x (figure_same st y earlier p i)))
+    by (Ok done) p = λ i. cond (eleven_never st y earlier p i) eleven (still (Ok (with_mark x (figure_same st y earlier p i))))
 
 -- ---- the number is given to no other refusal of a day
 

@@ -1,6 +1,6 @@
 -- Demand 3 for a day handed in alone: an answered day gets a figure within 6/100,000 of an inch of the unrounded equation. What is proved is
 -- sharper: 5.15/100,000. Assumes nothing.
-use Rattle.std.specs.Prelude.{List, [], ◌∷◌, ◌≡◌, ℕ, ◌≤◌, pos, Option, Some, None, ℤ}
+use Rattle.std.specs.Prelude.{List, [], ◌∷◌, ◌≡◌, ℕ, ◌≤◌, pos, Option, Some, None, ℤ, Ok, Err}
 use Rattle.numbers.specs.Ranges.{InRange}
 use Rattle.numbers.specs.Fractions.{ℚ, from_ℤ, ◌/ℚ◌, ◌-ℚ◌, ◌*ℚ◌, ◌≤ℚ◌, abs_ℚ}
 use Rattle.numbers.specs.Rounding.{RootOf}
@@ -10,13 +10,12 @@ use Rattle.tables.specs.Values.{albedo_at, a1_at, aw_at, bw_at, pressure_at}
 use Rattle.sheet.specs.Limits as limits
 use Rattle.equation.specs.Equation.{Inputs, value, tenths}
 use Rattle.equation.specs.Equation as equation
-use Rattle.day.specs.Judgement.{Answered, as_judged, with_mark}
+use Rattle.day.specs.Judgement.{Answered, as_judged, with_mark, Verdict}
 use Rattle.day.specs.declared.Station.{Station}
 use Rattle.day.specs.declared.Day.{Day}
 use Rattle.day.specs.declared.Earlier.{Earlier}
-use Rattle.day.specs.declared.Verdict.{Verdict}
 use Rattle.sheet.specs.Quantities.{largest_figure}
-use Rattle.day.specs.declared.Verdict.TheVariants.{Figure, Refused, Estimated}
+use Rattle.day.specs.declared.Figure.TheVariants.{Measured, Estimated}
 
 -- "the earlier means present", in °F: of the three calendar days before, those that have one
 abbrev pub if_present : Option ℤ → List ℚ → List ℚ
@@ -87,7 +86,7 @@ pub record SignedConstants (st : Station) : Type 0 where
 -- rules and the equation, ea and x alike, are those of the day as it is judged.
 unfoldable pub FigureOwed : Station → Day → Earlier → Verdict → Type 0
 FigureOwed st day earlier verdict =
-    Answered st (as_judged day) earlier → (n : ℕ) × (verdict ≡ with_mark day n) × WithinBound st (as_judged day) earlier n
+    Answered st (as_judged day) earlier → (n : ℕ) × (verdict ≡ Ok (with_mark day n)) × WithinBound st (as_judged day) earlier n
 
 -- the demand, over any judge of days
 unfoldable pub JudgesWithinBound : (Station → Day → Earlier → Verdict) → Type 0
@@ -95,9 +94,9 @@ JudgesWithinBound judge = (st : Station) (day : Day) (earlier : Earlier) → Sig
 
 -- the figure of a verdict that has one, marked or not, is at most so much
 abbrev pub FigureAtMost : ℕ → Verdict → Type 0
-FigureAtMost most (Figure n) = n ≤ most
-FigureAtMost most (Refused r) = Unit {0}
-FigureAtMost most (Estimated n) = n ≤ most
+FigureAtMost most (Ok (Measured n)) = n ≤ most
+FigureAtMost most (Ok (Estimated n)) = n ≤ most
+FigureAtMost most (Err r) = Unit {0}
 
 -- no figure is above the largest that the sheet's own range has: 150,000 ten-thousandths of an inch
 abbrev pub FigureInRange : Verdict → Type 0

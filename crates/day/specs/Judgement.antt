@@ -14,8 +14,8 @@ use Rattle.day.specs.declared.Day.{Day}
 use Rattle.day.specs.declared.Earlier.{Earlier}
 use Rattle.day.specs.declared.Refusal.{Refusal}
 use Rattle.day.specs.declared.Refusal.TheVariants.{StationField, BadDate, Missing, OutOfRange, OutOfOrder, AboveClear}
-use Rattle.day.specs.declared.Verdict.{Verdict}
-use Rattle.day.specs.declared.Verdict.TheVariants.{Figure, Refused, Estimated}
+use Rattle.day.specs.declared.Figure.{Figure}
+use Rattle.day.specs.declared.Figure.TheVariants.{Measured, Estimated}
 
 -- ---- what the sheet is worked from
 
@@ -130,15 +130,18 @@ unfoldable pub as_judged : Day → Day
 as_judged x = with_dew_point x (cond (lacks_dew_point x) x.minimum x.dewpoint)
 
 -- "gets its figure with a mark"
-unfoldable pub with_mark : Day → ℕ → Verdict
-with_mark x n = cond (lacks_dew_point x) (Estimated n) (Figure n)
+unfoldable pub with_mark : Day → ℕ → Figure
+with_mark x n = cond (lacks_dew_point x) (Estimated n) (Measured n)
 
--- ---- the verdict
+-- ---- the verdict: the figure, or the refusal
+
+abbrev pub Verdict : Type 0
+Verdict = Result Figure Refusal
 
 -- "It returns its figure or the first of .."
-abbrev pub verdict_with : Result (Unit {0}) Refusal → Verdict → Verdict
-verdict_with (Err r) v = Refused r
-verdict_with (Ok done) v = v
+abbrev pub verdict_with : Result (Unit {0}) Refusal → Figure → Verdict
+verdict_with (Err r) f = Err r
+verdict_with (Ok done) f = Ok f
 
 unfoldable pub judged : Station → Day → Earlier → Verdict
 judged st x earlier = verdict_with (standing_of st (as_judged x) earlier) (with_mark x (figure_of st (as_judged x) earlier))

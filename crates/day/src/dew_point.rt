@@ -3,7 +3,7 @@ ghost use Rattle.std.specs.Prelude.{◌≡◌};
 ghost use Rattle.day.specs.Judgement.{lacks_dew_point, as_judged, with_mark};
 
 use crate::rules::{MISSING, other_missing};
-use crate::{Day, Verdict};
+use crate::{Day, Figure};
 
 // Whether the dew point is the only reading missing.
 #[tactic(auto, unfolding(crate::specs::Judgement::lacks_dew_point))]
@@ -37,11 +37,11 @@ pub fn as_judged(day: Day) -> Day
 
 // The figure of an answered day, with its mark if it has one.
 #[tactic(auto, unfolding(crate::specs::Judgement::with_mark))]
-pub fn with_mark(day: Day, n: u32) -> Verdict
+pub fn with_mark(day: Day, n: u32) -> Figure
     ensures { result ≡ with_mark day n }
 {
     if lacks_dew_point(day) {
-        return Verdict::Estimated(n);
+        return Figure::Estimated(n);
     }
-    Verdict::Figure(n)
+    Figure::Measured(n)
 }

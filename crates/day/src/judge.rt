@@ -30,8 +30,6 @@ pub fn judge(station: Station, day: Day, earlier: Earlier) -> Verdict
     ensures figure_in_range { FigureInRange result }
 {
     let x = as_judged(day);
-    match standing(station, x, earlier) {
-        Err(why) => Verdict::Refused(why),
-        Ok(()) => with_mark(day, figure(station, x, earlier)),
-    }
+    standing(station, x, earlier)?;
+    Ok(with_mark(day, figure(station, x, earlier)))
 }

@@ -74,14 +74,15 @@ pub enum Refusal {
 #[derive(Clone, Copy, Debug, PartialEq, Eq)]
 pub struct UnknownRefusal(pub u32);
 
-// The figure in 0.0001 inch, or the refusal; or the figure with the mark that the minimum stood for a missing dew point. Three cases and no `Result`:
-// each is a kind of answer (3, 4, 9), and with the mark inside an `Ok` whatever tells them apart would match twice.
-#[derive(Clone, Copy)]
-pub enum Verdict {
-    Figure(u32),
-    Refused(Refusal),
+// A day's figure in 0.0001 inch: worked from the day's own dew point, or with the mark that the minimum stood for a missing one.
+#[derive(Clone, Copy, Debug, PartialEq, Eq)]
+pub enum Figure {
+    Measured(u32),
     Estimated(u32),
 }
+
+// What a day comes to: its figure, or what refuses it.
+pub type Verdict = Result<Figure, Refusal>;
 
 impl Code {
     // Whether one of the four is no capital.

@@ -3,7 +3,7 @@ use mathlib.Core.Path.{◌≡◌, refl}
 use lib.IntN.{pos, negsuc}
 use Rattle.std.specs.Prelude.{Some, None}
 use Rattle.day.specs.Judgement.{judged}
-use Rattle.day.specs.declared.Verdict.TheVariants.{Figure}
+use Rattle.day.specs.declared.Figure.TheVariants.{Measured}
 use Rattle.day.proofs.Examples.{days}
 use Rattle.exports.specs.HandedIn.{station_of, day_of, mean_of, three_before}
 use Rattle.exports.specs.Told.{accepted, refused, estimated, said_by, outcome_said, printed_said}
@@ -13,7 +13,7 @@ use Rattle.station_log.specs.declared.Fault.TheVariants.{CutShort, ShortBuffer}
 
 -- the summer day at LIDW after means of 71 and 70 °F, by its 26 numbers
 pub handed_in : judged (station_of 76 73 68 87 (pos 154) (pos 1_760) (pos 614) (negsuc 395) (pos 590) 100 497 1_500)
-    (day_of 2008 180 (pos 900) (pos 550) (pos 720) (pos 500) (pos 7_000) (pos 1_000)) (three_before 1 (pos 710) 1 (pos 700) 0 (pos 0)) ≡ Figure 3_518
+    (day_of 2008 180 (pos 900) (pos 550) (pos 720) (pos 500) (pos 7_000) (pos 1_000)) (three_before 1 (pos 710) 1 (pos 700) 0 (pos 0)) ≡ Ok (Measured 3_518)
 handed_in = days.1.told
 
 -- a flag of 0 says that there is no mean

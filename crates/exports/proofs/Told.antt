@@ -7,7 +7,7 @@ use native.Mathlib.Omega.{arith}
 use borrow.Author.Tests.{eqb-true}
 use lib.Dec.{eqb}
 use Rattle.day.specs.Bound.{FigureOwed}
-use Rattle.day.specs.Judgement.{judged}
+use Rattle.day.specs.Judgement.{judged, Verdict}
 use Rattle.day.specs.Rules.{number_of}
 use Rattle.exports.specs.Told.{Said, accepted, refused, estimated, mark_number, said, said_by, verdict_said, FigureSaid}
 use Rattle.day.specs.declared.Day.{Day}
@@ -15,7 +15,6 @@ use Rattle.day.specs.declared.Earlier.{Earlier}
 use Rattle.day.specs.declared.Refusal.{Refusal}
 use Rattle.day.specs.declared.Refusal.TheVariants.{StationField, BadDate, Missing, OutOfRange, OutOfOrder, AboveClear}
 use Rattle.day.specs.declared.Station.{Station}
-use Rattle.day.specs.declared.Verdict.{Verdict}
 
 pub halves_said : (k v : ℕ) → v < 4294967296 → said_by (k * 4294967296 + v) ≡ said k v
 unfolding said_by

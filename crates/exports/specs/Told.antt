@@ -2,13 +2,12 @@
 -- Assumes nothing.
 use Rattle.std.specs.Prelude.{cond, List, ◌≡◌, ℕ, ◌/◌, ◌%◌, eqb, Result, Ok, Err}
 use Rattle.day.specs.Bound.{WithinBound}
-use Rattle.day.specs.Judgement.{Answered, as_judged, with_mark}
+use Rattle.day.specs.Judgement.{Answered, as_judged, with_mark, Verdict}
 use Rattle.day.specs.Rules.{number_of}
 use Rattle.day.specs.declared.Day.{Day}
 use Rattle.day.specs.declared.Earlier.{Earlier}
 use Rattle.day.specs.declared.Station.{Station}
-use Rattle.day.specs.declared.Verdict.{Verdict}
-use Rattle.day.specs.declared.Verdict.TheVariants.{Figure, Refused, Estimated}
+use Rattle.day.specs.declared.Figure.TheVariants.{Measured, Estimated}
 use Rattle.station_log.specs.Log.{number_of_fault, Outcome}
 use Rattle.promises.specs.Demand.{AnsweredLog}
 use Rattle.text.specs.Report.{ReportOwed}
@@ -33,9 +32,9 @@ unfoldable pub said_by : ℕ → Said
 said_by r = said (r / 4294967296) (r % 4294967296)
 
 abbrev pub verdict_said : Verdict → Said
-verdict_said (Figure n) = accepted n
-verdict_said (Refused why) = refused (number_of why) 0
-verdict_said (Estimated n) = estimated n
+verdict_said (Ok (Measured n)) = accepted n
+verdict_said (Ok (Estimated n)) = estimated n
+verdict_said (Err why) = refused (number_of why) 0
 
 abbrev pub outcome_said : Outcome → Said
 outcome_said (Ok n) = accepted n
@@ -49,7 +48,7 @@ printed_said (Err short) = refused 12 short.needed
 -- Demand 3, of the number: an answered day has a figure there, with the mark where the minimum stands for its dew point, and within the bound
 unfoldable pub FigureSaid : Station → Day → Earlier → ℕ → Type 0
 FigureSaid st x earlier r =
-    Answered st (as_judged x) earlier → (n : ℕ) × (said_by r ≡ verdict_said (with_mark x n)) × WithinBound st (as_judged x) earlier n
+    Answered st (as_judged x) earlier → (n : ℕ) × (said_by r ≡ verdict_said (Ok (with_mark x n))) × WithinBound st (as_judged x) earlier n
 
 -- of the number returned for a log that the rules answer: a length and no refusal
 unfoldable pub LengthSaid : List ℕ → List ℕ → ℕ → Type 0

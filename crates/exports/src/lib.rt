@@ -13,7 +13,7 @@ ghost use Rattle.exports.specs.Told.{said, said_by, verdict_said, outcome_said, 
 ghost use Rattle.exports.specs.Version.{version};
 
 use day::judge::judge;
-use day::{Code, Day, Earlier, Station, Verdict};
+use day::{Code, Day, Earlier, Figure, Station};
 use station_log::Fault;
 
 // What stands in the high half for no refusal, and for the mark: a refusal's number has one byte.
@@ -110,9 +110,9 @@ pub extern "C" fn fuortwem_judge(
         three: mean_of(has_three, three),
     };
     match judge(station, day, earlier) {
-        Verdict::Figure(n) => packed(NO_REFUSAL, n),
-        Verdict::Refused(why) => packed(why.into(), 0),
-        Verdict::Estimated(n) => packed(MARK, n),
+        Ok(Figure::Measured(n)) => packed(NO_REFUSAL, n),
+        Ok(Figure::Estimated(n)) => packed(MARK, n),
+        Err(why) => packed(why.into(), 0),
     }
 }
 

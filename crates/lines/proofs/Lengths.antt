@@ -8,21 +8,23 @@ use native.Mathlib.Omega.{arith}
 use lib.Dec.{lit<}
 use lib.ListN.{length, length-append}
 use denote.Laws.{Is}
-use denote.Enum.Declared.{row}
 use mir.Val.{Val}
-use Rattle.day.specs.contracts.Verdict.{the_type}
+use Rattle.std.specs.Prelude.{Ok, Err}
+use Rattle.std.specs.contracts.result.Result.{the_row as result_row}
+use Rattle.day.specs.contracts.Figure.{the_row as figure_row}
+use Rattle.day.specs.contracts.Refusal.{the_row as refusal_row}
 use Rattle.day.specs.Rules.{number_of}
 use Rattle.day.specs.declared.Code.{Code}
 use Rattle.day.specs.declared.Refusal.{Refusal}
 use Rattle.day.specs.declared.Refusal.TheVariants.{StationField, BadDate, Missing, OutOfRange, OutOfOrder, AboveClear}
-use Rattle.day.specs.declared.Verdict.{Verdict}
-use Rattle.day.specs.declared.Verdict.TheVariants.{Figure, Refused, Estimated}
+use Rattle.day.specs.Judgement.{Verdict}
+use Rattle.day.specs.declared.Figure.TheVariants.{Measured, Estimated}
 use Rattle.lines.specs.Text.{digits, padded, inches, field, verdict_text, day_line, crop_line, totals, month_line, season_line, refused_line}
 use Rattle.lines.proofs.Digits.{padded_short, digits_most, padded_most, inches_most}
 
 -- what holds of a verdict that code is handed, alone or in a line: its figure fits in 32 bits
 abbrev pub Handed : Verdict → Type 0
-Handed v = (stored : List Val) × Is (row the_type) v stored
+Handed v = (stored : List Val) × Is (result_row figure_row refusal_row) v stored
 
 two_digits : (r : Refusal) → number_of r < 10 ^ 2
 two_digits StationField = lit< tt
@@ -32,25 +34,25 @@ two_digits OutOfRange = lit< tt
 two_digits OutOfOrder = lit< tt
 two_digits AboveClear = lit< tt
 
-pub refusal_most : (r : Refusal) → length (verdict_text (Refused r)) ≤ 3
+pub refusal_most : (r : Refusal) → length (verdict_text (Err r)) ≤ 3
 unfolding verdict_text
 refusal_most r = omega (arith, digits_most 1 (number_of r) (two_digits r))
 
 -- the mark is two bytes
-pub estimate_size : (n : ℕ) → length (verdict_text (Estimated n)) ≡ length (inches n) + 2
+pub estimate_size : (n : ℕ) → length (verdict_text (Ok (Estimated n))) ≡ length (inches n) + 2
 unfolding verdict_text
 estimate_size n = simp length-append
 
 -- at most 6 digits, a point, 4 decimals and the mark
 verdict_most : (v : Verdict) → Handed v → length (verdict_text v) ≤ 13
 unfolding verdict_text
-verdict_most (Figure n) handed =
-    let fits : n < 2 ^ 32 = handed.1.1.1.1.1.0.1 in
+verdict_most (Ok (Measured n)) handed =
+    let fits : n < 2 ^ 32 = handed.1.1.1.1.1.0.1.1.1.1.0.1 in
     omega (arith, inches_most 5 n (omega arith))
-verdict_most (Estimated n) handed =
-    let fits : n < 2 ^ 32 = handed.1.1.1.1.1.0.1 in
+verdict_most (Ok (Estimated n)) handed =
+    let fits : n < 2 ^ 32 = handed.1.1.1.1.1.0.1.1.1.1.0.1 in
     omega (arith, estimate_size n, inches_most 5 n (omega arith))
-verdict_most (Refused r) handed = omega (arith, refusal_most r)
+verdict_most (Err r) handed = omega (arith, refusal_most r)
 
 pub day_line_size : (code : Code) (year d : ℕ) (v : Verdict)
     → length (day_line code year d v) ≡ 4 + length (field (padded 4 year)) + length (field (padded 3 d)) + length (field (verdict_text v)) + 1

@@ -1,9 +1,9 @@
 -- The lines of the report as lists of bytes, by document 01, "Proved days and edges", and by 02, W4 and W5. Assumes nothing.
-use Rattle.std.specs.Prelude.{List, [], ◌∷◌, ◌++◌, ℕ, zero, suc, ◌+◌, ◌-◌, ◌/◌, ◌%◌, length, replicate}
+use Rattle.std.specs.Prelude.{List, [], ◌∷◌, ◌++◌, ℕ, zero, suc, ◌+◌, ◌-◌, ◌/◌, ◌%◌, length, replicate, Ok, Err}
 use Rattle.day.specs.Rules.{number_of}
 use Rattle.day.specs.declared.Code.{Code}
-use Rattle.day.specs.declared.Verdict.{Verdict}
-use Rattle.day.specs.declared.Verdict.TheVariants.{Figure, Refused, Estimated}
+use Rattle.day.specs.Judgement.{Verdict}
+use Rattle.day.specs.declared.Figure.TheVariants.{Measured, Estimated}
 
 -- the bytes of a space, of a decimal point, of a newline, and of a digit from 0 to 9
 abbrev pub space : ℕ
@@ -46,9 +46,9 @@ field text = space ∷ text
 
 -- "or R and the number"; and "kind 3's line, code included, then a space and an E" (02, W4)
 unfoldable pub verdict_text : Verdict → List ℕ
-verdict_text (Figure n) = inches n
-verdict_text (Refused r) = 82 ∷ digits (number_of r)
-verdict_text (Estimated n) = inches n ++ field (69 ∷ [])
+verdict_text (Ok (Measured n)) = inches n
+verdict_text (Ok (Estimated n)) = inches n ++ field (69 ∷ [])
+verdict_text (Err r) = 82 ∷ digits (number_of r)
 
 -- `STN YEAR DAY ET`
 abbrev pub header : List ℕ

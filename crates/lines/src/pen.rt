@@ -3,7 +3,7 @@ ghost use Rattle.std.specs.Prelude.{[], ◌∷◌, ◌%◌};
 ghost use Rattle.lines.specs.Pen.{Fits, Wrote};
 ghost use Rattle.lines.specs.Text.{digit, digits, padded, inches, code_text, field, verdict_text};
 
-use day::{Code, Verdict};
+use day::{Code, Figure, Verdict};
 
 // A lent text and the index of the next byte. Both, and not the part that is left: who lends it is promised the whole of it (`Written`).
 #[derive(Drop)]
@@ -97,14 +97,14 @@ impl Pen<'_> {
         ensures { Wrote self.old (verdict_text verdict) self.new }
     {
         match verdict {
-            Verdict::Figure(n) => self.put_inches(u64::from(n)),
-            Verdict::Refused(r) => {
-                self.put_byte(b'R');
-                self.put_digits(u64::from(u32::from(r)));
-            }
-            Verdict::Estimated(n) => {
+            Ok(Figure::Measured(n)) => self.put_inches(u64::from(n)),
+            Ok(Figure::Estimated(n)) => {
                 self.put_inches(u64::from(n));
                 self.put_bytes(b" E");
+            }
+            Err(r) => {
+                self.put_byte(b'R');
+                self.put_digits(u64::from(u32::from(r)));
             }
         }
     }

@@ -8,17 +8,16 @@ use Prim.Native.Nat.{◌+◌, ◌*◌}
 use native.Mathlib.Omega.{arith}
 use lib.Dec.{T}
 use lib.ListN.{length}
+use Rattle.std.specs.Prelude.{Err}
 use Rattle.answers.specs.Answers.{bytes_of}
 use Rattle.answers.specs.declared.Answer.{Answer}
 use Rattle.answers.proofs.Bytes.{bytes_longer}
 use Rattle.answers.proofs.Roles.{bytes_counted}
-use Rattle.day.specs.Judgement.{lacks_dew_point, judged}
+use Rattle.day.specs.Judgement.{lacks_dew_point, judged, Verdict}
 use Rattle.day.specs.declared.Day.{Day}
 use Rattle.day.specs.declared.Refusal.{Refusal}
 use Rattle.day.specs.declared.Refusal.TheVariants.{BadDate, Missing}
 use Rattle.day.specs.declared.Station.{Station}
-use Rattle.day.specs.declared.Verdict.{Verdict}
-use Rattle.day.specs.declared.Verdict.TheVariants as verdict
 use Rattle.day.proofs.DaySince as day-since
 use Rattle.day.proofs.WithoutSubstitute.{judged_strictly, with_minimum, estimated}
 use Rattle.station_log.specs.History.{good_date, earlier_means, verdict_of}
@@ -38,13 +37,13 @@ module _ (st : Station) (h : List Day) (y : Day) where
 
   -- 6, unless the date is good
   abbrev if_good : Bool → Verdict → Verdict
-  if_good good v = cond good v (verdict.Refused BadDate)
+  if_good good v = cond good v (Err BadDate)
 
-  verdict_stays : (lacks_dew_point y ≡ true → verdict_strictly st h y ≢ verdict.Refused Missing) → verdict_of st h y ≡ verdict_strictly st h y
+  verdict_stays : (lacks_dew_point y ≡ true → verdict_strictly st h y ≢ Err Missing) → verdict_of st h y ≡ verdict_strictly st h y
   unfolding verdict_of verdict_strictly
   verdict_stays stays = by (good_date h y) (lacks_dew_point y) refl stays
     where
-      by : (good lacks : Bool) → lacks_dew_point y ≡ lacks → (lacks ≡ true → if_good good then ≢ verdict.Refused Missing) → if_good good now ≡ if_good good then
+      by : (good lacks : Bool) → lacks_dew_point y ≡ lacks → (lacks ≡ true → if_good good then ≢ Err Missing) → if_good good now ≡ if_good good then
       by true true e other = (day-since.since st y (earlier_means h y)).kept (other refl)
       by true false e other = (day-since.since st y (earlier_means h y)).remains e
       by false lacks e other = refl
@@ -54,11 +53,11 @@ module _ (st : Station) (h : List Day) (y : Day) where
   substituted_verdict good lacks = ap (λ (b : Bool). if_good b now) good ∙ (day-since.since st y (earlier_means h y)).substituted lacks
 
   -- without its dew point alone it was refused, with 6 or otherwise
-  was_refused : lacks_dew_point y ≡ true → (r : Refusal) × (verdict_strictly st h y ≡ verdict.Refused r)
+  was_refused : lacks_dew_point y ≡ true → (r : Refusal) × (verdict_strictly st h y ≡ Err r)
   unfolding verdict_strictly
   was_refused lacks = by (good_date h y)
     where
-      by : (good : Bool) → (r : Refusal) × (if_good good then ≡ verdict.Refused r)
+      by : (good : Bool) → (r : Refusal) × (if_good good then ≡ Err r)
       by true = day-since.refused_without st y (earlier_means h y) lacks
       by false = (BadDate, refl)
 

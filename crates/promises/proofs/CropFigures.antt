@@ -4,6 +4,7 @@ use mathlib.Core.Path.{◌≡◌, refl, sym, ap, ◌∙◌, subst}
 use mathlib.Core.Bool.{Bool, false, cond}
 use mathlib.Core.List.{List, [], ◌∷◌}
 use Prim.Native.Nat.{ℕ}
+use Rattle.std.specs.Prelude.{Ok}
 use Rattle.station_log.specs.Log.{Outcome}
 use Rattle.crops.specs.Crop.{bad_crop, crop_figure}
 use Rattle.crops.specs.declared.Crop.{Crop}
@@ -11,11 +12,10 @@ use Rattle.crops.proofs.CropBound.{crop_within_bound, crop_within_proved}
 use Rattle.crops.proofs.CropFigure.{twice_most}
 use Rattle.day.specs.Bound.{Within, WithinBound, FigureOwed, JudgesWithinBound}
 use Rattle.day.proofs.DayBound.{proved_bound, judged_within_bound, judged_within_proved}
-use Rattle.day.specs.Judgement.{as_judged, with_mark, judged}
+use Rattle.day.specs.Judgement.{as_judged, with_mark, judged, Verdict}
 use Rattle.day.specs.declared.Day.{Day}
 use Rattle.day.specs.declared.Earlier.{Earlier}
 use Rattle.day.specs.declared.Station.{Station}
-use Rattle.day.specs.declared.Verdict.{Verdict}
 use Rattle.day.proofs.Marks.{either_way}
 use Rattle.answers.specs.Answers.{value_of, day_answer, answer_bytes}
 use Rattle.answers.specs.declared.Answer.TheVariants as answer
@@ -32,18 +32,18 @@ unfoldable pub EveryCropFigure : (List ℕ → List ℕ → List ℕ) → Type 0
 EveryCropFigure read = (s buffer : List ℕ) → CropFiguresOwed s buffer (read s buffer)
 
 -- a mark hides no figure
-one_figure : (x : Day) {n m : ℕ} → with_mark x n ≡ with_mark x m → n ≡ m
-one_figure x {n} {m} e = sym (either_way (λ v. value_of v ≡ n) x refl refl) ∙ ap value_of e ∙ either_way (λ v. value_of v ≡ m) x refl refl
+one_figure : (x : Day) {n m : ℕ} → ◌≡◌ {A = Verdict} (Ok (with_mark x n)) (Ok (with_mark x m)) → n ≡ m
+one_figure x {n} {m} e = sym (either_way (λ f. value_of (Ok f) ≡ n) x refl refl) ∙ ap value_of e ∙ either_way (λ f. value_of (Ok f) ≡ m) x refl refl
 
 -- and a crop's answer is the same with it
-marked_alike : (c : Crop) (x : Day) (n : ℕ) → crop_answers (planted c) x (with_mark x n) ≡ crop_answer c x n
-marked_alike c x n = either_way (λ v. crop_answers (planted c) x v ≡ crop_answer c x n) x refl refl
+marked_alike : (c : Crop) (x : Day) (n : ℕ) → crop_answers (planted c) x (Ok (with_mark x n)) ≡ crop_answer c x n
+marked_alike c x n = either_way (λ f. crop_answers (planted c) x (Ok f) ≡ crop_answer c x n) x refl refl
 
 module _ {s : List ℕ} {i : ℕ} {st : Station} {x : Day} {earlier : Earlier} {place : ℕ} {c : Crop} (d : CropDay s i st x earlier place c) where
   -- the day's figure, with both its bounds
   record Figured : Type 0 where
     n : ℕ
-    told : judged st x earlier ≡ with_mark x n
+    told : judged st x earlier ≡ Ok (with_mark x n)
     demanded : WithinBound st (as_judged x) earlier n
     proved : Within proved_bound st (as_judged x) earlier n
 
@@ -59,7 +59,7 @@ module _ {s : List ℕ} {i : ℕ} {st : Station} {x : Day} {earlier : Earlier} {
   good = crop_faultless s d.answered.at d.holds
 
   -- the answers of the crop that holds are its figure
-  one_answer : (n : ℕ) → judged st x earlier ≡ with_mark x n
+  one_answer : (n : ℕ) → judged st x earlier ≡ Ok (with_mark x n)
       → crop_answers d.answered.at.block.crop x (judged st x earlier) ≡ answer.Crop c.code (crop_figure c x.d n) ∷ []
   one_answer n told =
       ap (λ (pl : Planted). crop_answers pl x (judged st x earlier)) d.holds

@@ -10,22 +10,20 @@ use Rattle.day.specs.Calendar.{is_date}
 use Rattle.day.specs.declared.Day.{Day}
 use Rattle.day.specs.declared.Earlier.{Earlier}
 use Rattle.day.specs.declared.Station.{Station}
-use Rattle.day.specs.declared.Verdict.{Verdict}
 use Rattle.answers.specs.Answers.{day_answer, answer_bytes, bytes_of}
 use Rattle.promises.specs.Days.{DayAt}
 use Rattle.station_log.specs.History.{verdict_of}
 use Rattle.station_log.specs.Log.{day, crop_answers, answers_of, outcome_of, buffer_after}
-use Rattle.std.specs.Prelude.{Ok}
+use Rattle.std.specs.Prelude.{Ok, Err}
 use Rattle.answers.specs.declared.Answer.{Answer}
 use Rattle.station_log.proofs.Means.{good_date_lem}
 use Rattle.promises.proofs.RecordPlaces.{part_at, rest, about_record}
-use Rattle.day.specs.Judgement.{judged}
+use Rattle.day.specs.Judgement.{judged, Verdict}
 use Rattle.day.specs.declared.Refusal.TheVariants.{BadDate}
-use Rattle.day.specs.declared.Verdict.TheVariants.{Refused}
 
 -- the verdict in its answer: 6, or that of the judgement
 abbrev pub verdict_at : Station → Day → Earlier → Bool → Verdict
-verdict_at station x earlier good = cond good (judged station x earlier) (Refused BadDate)
+verdict_at station x earlier good = cond good (judged station x earlier) (Err BadDate)
 
 -- ---- a day record
 

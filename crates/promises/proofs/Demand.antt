@@ -3,14 +3,14 @@ use mathlib.Core.Path.{◌≡◌, refl, ap, ◌∙◌}
 use mathlib.Core.Bool.{false, not}
 use mathlib.Core.List.{List}
 use Prim.Native.Nat.{ℕ}
+use Rattle.std.specs.Prelude.{Ok}
 use Rattle.day.specs.Bound.{WithinBound, FigureOwed, JudgesWithinBound}
-use Rattle.day.specs.Judgement.{holds, Answered, as_judged, with_mark, judged}
+use Rattle.day.specs.Judgement.{holds, Answered, as_judged, with_mark, judged, Verdict}
 use Rattle.day.specs.declared.Day.{Day}
 use Rattle.day.specs.declared.Earlier.{Earlier}
 use Rattle.day.specs.declared.Refusal.{Refusal}
 use Rattle.day.specs.declared.Refusal.TheVariants.{StationField, BadDate, Missing, OutOfRange, OutOfOrder, AboveClear}
 use Rattle.day.specs.declared.Station.{Station}
-use Rattle.day.specs.declared.Verdict.{Verdict}
 use Rattle.day.proofs.DayBound.{judged_within_bound}
 use Rattle.day.proofs.Marks.{either_way}
 use Rattle.answers.specs.Answers.{kind_of, value_of, dated, day_answer, answer_bytes}
@@ -22,8 +22,8 @@ use Rattle.station_log.proofs.SoundStation.{station_constants}
 use Rattle.promises.proofs.Stations.{station_sound}
 
 -- the mark changes an answer's kind and not its figure
-pub marked_bytes : (x : Day) (n : ℕ) → answer_bytes (day_answer x (with_mark x n)) ≡ dated (kind_of (with_mark x n)) x.year x.d n
-marked_bytes x n = ap (dated (kind_of (with_mark x n)) x.year x.d) (either_way (λ v. value_of v ≡ n) x refl refl)
+pub marked_bytes : (x : Day) (n : ℕ) → answer_bytes (day_answer x (Ok (with_mark x n))) ≡ dated (kind_of (Ok (with_mark x n))) x.year x.d n
+marked_bytes x n = ap (dated (kind_of (Ok (with_mark x n))) x.year x.d) (either_way (λ f. value_of (Ok f) ≡ n) x refl refl)
 
 module _ {s : List ℕ} {i : ℕ} {st : Station} {x : Day} {earlier : Earlier} {place : ℕ} (d : AnsweredDay s i st x earlier place) where
   -- a log with a faulty station is refused, and a good date is one of the calendar: so none of the refusals holds
@@ -40,7 +40,7 @@ module _ {s : List ℕ} {i : ℕ} {st : Station} {x : Day} {earlier : Earlier} {
   unfolding Answered
   answered = none_holds
 
-  owed : (n : ℕ) × (judged st x earlier ≡ with_mark x n) × WithinBound st (as_judged x) earlier n
+  owed : (n : ℕ) × (judged st x earlier ≡ Ok (with_mark x n)) × WithinBound st (as_judged x) earlier n
   unfolding JudgesWithinBound FigureOwed
   owed = judged_within_bound st x earlier (station_constants (station_sound s d.at)) answered
 

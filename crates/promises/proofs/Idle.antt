@@ -9,11 +9,10 @@ use lib.ListN.{get_or, replicate, take, drop}
 use Rattle.numbers.specs.Fractions.{◌+ℚ◌, -ℚ◌, ◌*ℚ◌, ◌/ℚ◌, nonneg, Near}
 use Rattle.numbers.proofs.Near.{near_trans, near_sym}
 use Rattle.day.specs.Bound.{WithinBound}
-use Rattle.day.specs.Judgement.{as_judged, with_mark}
+use Rattle.day.specs.Judgement.{as_judged, with_mark, Verdict}
 use Rattle.day.specs.declared.Day.{Day}
 use Rattle.day.specs.declared.Earlier.{Earlier}
 use Rattle.day.specs.declared.Station.{Station}
-use Rattle.day.specs.declared.Verdict.{Verdict}
 use Rattle.day.proofs.Examples.{constants, days}
 use Rattle.day.proofs.Idle.{inches, two_figures, apart}
 use Rattle.day.proofs.Marks.{either_way}
@@ -38,8 +37,8 @@ unfolding AnsweredLog outcome_of reading_of read_from found_at station_at day_at
 accepted_there = (32, refl)
 
 -- an answered day's answer is of kind 3 or 9
-no_other : (k : ℕ) → (k ≡ 3 → ⊥) → (k ≡ 9 → ⊥) → (x : Day) (n : ℕ) → k ≡ kind_of (with_mark x n) → ⊥
-no_other k three nine x n = either_way (λ v. k ≡ kind_of v → ⊥) x {n = n} three nine
+no_other : (k : ℕ) → (k ≡ 3 → ⊥) → (k ≡ 9 → ⊥) → (x : Day) (n : ℕ) → k ≡ kind_of (Ok (with_mark x n)) → ⊥
+no_other k three nine x n = either_way (λ f. k ≡ kind_of (Ok f) → ⊥) x {n = n} three nine
 
 -- 1 for a log that is written, 0 for one that is refused
 abbrev written : Outcome → ℕ

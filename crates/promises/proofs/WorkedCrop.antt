@@ -9,14 +9,13 @@ use native.Mathlib.Omega.{arith}
 use lib.Dec.{ltb}
 use lib.IntN.{pos}
 use lib.ListN.{length, replicate}
-use Rattle.std.specs.Prelude.{Some, None}
+use Rattle.std.specs.Prelude.{Some, None, Err}
 use Rattle.crops.specs.Crop.{bad_crop, in_season, above, crop_figure}
 use Rattle.day.specs.Calendar.{year_length, is_date}
-use Rattle.day.specs.Judgement.{holds, standing_of, lacks_dew_point, as_judged, judged, Answered}
+use Rattle.day.specs.Judgement.{holds, standing_of, lacks_dew_point, as_judged, judged, Answered, Verdict}
 use Rattle.day.specs.declared.Earlier.{Earlier}
 use Rattle.day.specs.declared.Refusal.TheVariants.{Missing}
-use Rattle.day.specs.declared.Verdict.{Verdict}
-use Rattle.day.specs.declared.Verdict.TheVariants.{Figure, Refused}
+use Rattle.day.specs.declared.Figure.TheVariants.{Measured}
 use Rattle.day.proofs.Examples.{days}
 use Rattle.answers.specs.Answers.{day_answer, bytes_of}
 use Rattle.answers.specs.declared.Answer.{Answer}
@@ -51,8 +50,8 @@ crop_log =
 abbrev at : ℕ → Earlier → Verdict
 at offset earlier = judged (station_at crop_log 1) (day_at crop_log offset) earlier
 
-lacking : (at 42 no_mean ≡ Refused Missing) × (at 59 (one_mean 700) ≡ Refused Missing) × (at 112 no_mean ≡ Refused Missing) × (at 129 (one_mean 455) ≡ Refused Missing)
-    × (at 146 (record { one = Some (pos 610); two = Some (pos 455); three = None }) ≡ Refused Missing)
+lacking : (at 42 no_mean ≡ Err Missing) × (at 59 (one_mean 700) ≡ Err Missing) × (at 112 no_mean ≡ Err Missing) × (at 129 (one_mean 455) ≡ Err Missing)
+    × (at 146 (record { one = Some (pos 610); two = Some (pos 455); three = None }) ≡ Err Missing)
 unfolding judged lacks_dew_point as_judged standing_of holds station_at day_at word_at signed_of signed_at is_date year_length
 lacking = (refl, refl, refl, refl, refl)
 
@@ -84,11 +83,11 @@ crop_day =
 -- 37.5 per cent of 3,518 ten-thousandths of an inch, between stages 2 and 3; and no crop figure in the second block
 pub worked : answers_to crop_log ≡
     answer.Station (station_at crop_log 1).code
-    ∷ answer.Day 2008 178 (Refused Missing) ∷ answer.Day 2008 179 (Refused Missing) ∷ answer.Day 2008 180 (Figure 3_518)
+    ∷ answer.Day 2008 178 (Err Missing) ∷ answer.Day 2008 179 (Err Missing) ∷ answer.Day 2008 180 (Ok (Measured 3_518))
     ∷ answer.Crop (crop_at crop_log 20).code 1_319
     ∷ answer.Station (station_at crop_log 1).code
-    ∷ answer.Day 2008 177 (Refused Missing) ∷ answer.Day 2008 178 (Refused Missing) ∷ answer.Day 2008 179 (Refused Missing)
-    ∷ answer.Day 2008 180 (Figure 3_356)
+    ∷ answer.Day 2008 177 (Err Missing) ∷ answer.Day 2008 178 (Err Missing) ∷ answer.Day 2008 179 (Err Missing)
+    ∷ answer.Day 2008 180 (Ok (Measured 3_356))
     ∷ []
 unfolding reading_of read_from found_at station_at day_at crop_at word_at signed_of signed_at is_date year_length days_before good_date counted earlier_means verdict_of bad_crop in_season above crop_figure
 worked =

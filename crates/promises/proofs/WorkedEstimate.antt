@@ -9,16 +9,15 @@ use Prim.Native.Nat.{ℕ}
 use lib.Dec.{ltb}
 use lib.IntN.{pos}
 use lib.ListN.{length, replicate}
-use Rattle.std.specs.Prelude.{Some, None}
+use Rattle.std.specs.Prelude.{Some, None, Err}
 use Rattle.crops.specs.Crop.{bad_crop, in_season, above, crop_figure}
 use Rattle.day.specs.Calendar.{year_length, is_date}
-use Rattle.day.specs.Judgement.{holds, standing_of, lacks_dew_point, as_judged, judged, Answered}
+use Rattle.day.specs.Judgement.{holds, standing_of, lacks_dew_point, as_judged, judged, Answered, Verdict}
 use Rattle.day.specs.declared.Day.{Day}
 use Rattle.day.specs.declared.Earlier.{Earlier}
 use Rattle.day.specs.declared.Refusal.TheVariants.{Missing}
 use Rattle.day.specs.declared.Station.{Station}
-use Rattle.day.specs.declared.Verdict.{Verdict}
-use Rattle.day.specs.declared.Verdict.TheVariants.{Figure, Refused, Estimated}
+use Rattle.day.specs.declared.Figure.TheVariants.{Measured, Estimated}
 use Rattle.day.proofs.Examples.{days, estimates}
 use Rattle.day.proofs.WithoutSubstitute.{judged_strictly}
 use Rattle.day.proofs.DaySince.{since}
@@ -61,19 +60,19 @@ three_means = record { one = Some (pos 720); two = Some (pos 710); three = Some 
 abbrev at : (Station → Day → Earlier → Verdict) → ℕ → Earlier → Verdict
 at judge offset earlier = judge (station_at estimate_log 1) (day_at estimate_log offset) earlier
 
-lacking : (at judged 42 no_mean ≡ Refused Missing) × (at judged 59 (one_mean 700) ≡ Refused Missing) × (at judged 93 three_means ≡ Refused Missing)
-    × (at judged 129 no_mean ≡ Refused Missing) × (at judged 146 (one_mean 200) ≡ Refused Missing)
+lacking : (at judged 42 no_mean ≡ Err Missing) × (at judged 59 (one_mean 700) ≡ Err Missing) × (at judged 93 three_means ≡ Err Missing)
+    × (at judged 129 no_mean ≡ Err Missing) × (at judged 146 (one_mean 200) ≡ Err Missing)
 unfolding judged lacks_dew_point as_judged standing_of holds station_at day_at word_at signed_of signed_at is_date year_length
 lacking = (refl, refl, refl, refl, refl)
 
-lacking_then : (at judged_strictly 42 no_mean ≡ Refused Missing) × (at judged_strictly 59 (one_mean 700) ≡ Refused Missing)
-    × (at judged_strictly 76 two_means ≡ Refused Missing) × (at judged_strictly 93 three_means ≡ Refused Missing)
-    × (at judged_strictly 129 no_mean ≡ Refused Missing) × (at judged_strictly 146 (one_mean 200) ≡ Refused Missing)
+lacking_then : (at judged_strictly 42 no_mean ≡ Err Missing) × (at judged_strictly 59 (one_mean 700) ≡ Err Missing)
+    × (at judged_strictly 76 two_means ≡ Err Missing) × (at judged_strictly 93 three_means ≡ Err Missing)
+    × (at judged_strictly 129 no_mean ≡ Err Missing) × (at judged_strictly 146 (one_mean 200) ≡ Err Missing)
 unfolding judged_strictly standing_of holds station_at day_at word_at signed_of signed_at is_date year_length
 lacking_then = (refl, refl, refl, refl, refl, refl)
 
 -- day 12 of document 01's log had the figure that it has
-answered_then : at judged_strictly 163 (record { one = Some (pos 200); two = Some (pos 200); three = None }) ≡ Figure 0
+answered_then : at judged_strictly 163 (record { one = Some (pos 200); two = Some (pos 200); three = None }) ≡ Ok (Measured 0)
 unfolding lacks_dew_point station_at day_at word_at signed_of signed_at
 answered_then = sym ((since (station_at estimate_log 1) (day_at estimate_log 163) _).remains refl) ∙ days.0.told
 
@@ -95,11 +94,11 @@ all t u v w x y z =
 -- 37.5 per cent of 3,347 ten-thousandths of an inch
 pub worked : answers_to estimate_log ≡
     answer.Station (station_at estimate_log 1).code
-    ∷ answer.Day 2008 178 (Refused Missing) ∷ answer.Day 2008 179 (Refused Missing) ∷ answer.Day 2008 180 (Estimated 3_347)
+    ∷ answer.Day 2008 178 (Err Missing) ∷ answer.Day 2008 179 (Err Missing) ∷ answer.Day 2008 180 (Ok (Estimated 3_347))
     ∷ answer.Crop (crop_at estimate_log 20).code 1_255
-    ∷ answer.Day 2008 181 (Refused Missing)
+    ∷ answer.Day 2008 181 (Err Missing)
     ∷ answer.Station (station_at estimate_log 1).code
-    ∷ answer.Day 2008 10 (Refused Missing) ∷ answer.Day 2008 11 (Refused Missing) ∷ answer.Day 2008 12 (Figure 0)
+    ∷ answer.Day 2008 10 (Err Missing) ∷ answer.Day 2008 11 (Err Missing) ∷ answer.Day 2008 12 (Ok (Measured 0))
     ∷ []
 unfolding reading_of read_from found_at station_at day_at crop_at word_at signed_of signed_at is_date year_length days_before good_date counted earlier_means verdict_of bad_crop in_season above crop_figure
 worked = λ i. all (lacking.0 i) (lacking.1 i) (estimates.told i) (lacking.2 i) (lacking.3 i) (lacking.4 i) (days.0.told i) ++ []
@@ -168,7 +167,7 @@ bytes = λ i. leaves (outcome_is 84 i) (bytes_of (worked i)) lent
 -- ---- 73 bytes were needed before
 
 then_worked : all_strictly (entries_of (reading_of estimate_log)) ≡
-    all (Refused Missing) (Refused Missing) (Refused Missing) (Refused Missing) (Refused Missing) (Refused Missing) (Figure 0)
+    all (Err Missing) (Err Missing) (Err Missing) (Err Missing) (Err Missing) (Err Missing) (Ok (Measured 0))
 unfolding reading_of read_from found_at station_at day_at crop_at word_at signed_of signed_at is_date year_length days_before good_date counted earlier_means verdict_strictly bad_crop in_season above crop_figure
 then_worked =
     λ i.

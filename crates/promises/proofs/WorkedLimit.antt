@@ -9,11 +9,10 @@ use native.Mathlib.Omega.{arith}
 use lib.Dec.{ltb}
 use lib.ListN.{length, replicate}
 use Rattle.day.specs.Calendar.{year_length, is_date}
-use Rattle.day.specs.Judgement.{holds, standing_of, lacks_dew_point, as_judged, judged, Answered}
+use Rattle.day.specs.Judgement.{holds, standing_of, lacks_dew_point, as_judged, judged, Answered, Verdict}
 use Rattle.day.specs.declared.Refusal.TheVariants.{Missing}
 use Rattle.day.specs.declared.Station.{Station}
-use Rattle.day.specs.declared.Verdict.{Verdict}
-use Rattle.day.specs.declared.Verdict.TheVariants.{Figure, Refused}
+use Rattle.day.specs.declared.Figure.TheVariants.{Measured}
 use Rattle.day.proofs.Examples.{limits}
 use Rattle.answers.specs.Answers.{day_answer, bytes_of}
 use Rattle.answers.specs.declared.Answer.{Answer}
@@ -26,7 +25,7 @@ use Rattle.promises.proofs.LimitedStations.{StationThere}
 use Rattle.station_log.specs.Log.{bare, answers_to, read_from, reading_of, outcome_of, leaves, buffer_after}
 use Rattle.station_log.specs.Parts.{entries_of}
 use Rattle.promises.proofs.WithoutKind.{found_without, read_without, reading_without, Without}
-use Rattle.std.specs.Prelude.{Ok}
+use Rattle.std.specs.Prelude.{Ok, Err}
 use Rattle.station_log.specs.Log.{refusal}
 use Rattle.promises.proofs.Demand.{log_within_bound}
 use Rattle.station_log.proofs.Sample.{sample, fields, station, windless, lidw, missing, no_mean, one_mean, two_means}
@@ -53,8 +52,8 @@ first = limited_station_at limit_log 1
 abbrev second : Station
 second = station_at limit_log 73
 
-lacking : (judged first (day_at limit_log 22) no_mean ≡ Refused Missing) × (judged first (day_at limit_log 39) (one_mean 700) ≡ Refused Missing)
-    × (judged second (day_at limit_log 92) no_mean ≡ Refused Missing) × (judged second (day_at limit_log 109) (one_mean 700) ≡ Refused Missing)
+lacking : (judged first (day_at limit_log 22) no_mean ≡ Err Missing) × (judged first (day_at limit_log 39) (one_mean 700) ≡ Err Missing)
+    × (judged second (day_at limit_log 92) no_mean ≡ Err Missing) × (judged second (day_at limit_log 109) (one_mean 700) ≡ Err Missing)
 unfolding judged lacks_dew_point as_judged standing_of holds station_at limited_station_at day_at word_at signed_of signed_at is_date year_length
 lacking = (refl, refl, refl, refl)
 
@@ -75,9 +74,9 @@ answered =
 -- 3,518 ten-thousandths of an inch with the limit of 100 miles, 3,925 with that of 150
 pub worked : answers_to limit_log ≡
     answer.Station first.code
-    ∷ answer.Day 2008 178 (Refused Missing) ∷ answer.Day 2008 179 (Refused Missing) ∷ answer.Day 2008 180 (Figure 3_518)
+    ∷ answer.Day 2008 178 (Err Missing) ∷ answer.Day 2008 179 (Err Missing) ∷ answer.Day 2008 180 (Ok (Measured 3_518))
     ∷ answer.Station second.code
-    ∷ answer.Day 2008 178 (Refused Missing) ∷ answer.Day 2008 179 (Refused Missing) ∷ answer.Day 2008 180 (Figure 3_925)
+    ∷ answer.Day 2008 178 (Err Missing) ∷ answer.Day 2008 179 (Err Missing) ∷ answer.Day 2008 180 (Ok (Measured 3_925))
     ∷ []
 unfolding reading_of read_from found_at station_at limited_station_at day_at word_at signed_of signed_at is_date year_length days_before good_date counted earlier_means verdict_of
 worked =

@@ -6,12 +6,12 @@ use mathlib.Core.List.{List, [], ◌∷◌, ◌++◌}
 use Prim.Native.Nat.{ℕ}
 use lib.IntN.{pos}
 use lib.ListN.{take, drop}
-use Rattle.std.specs.Prelude.{Some, None}
+use Rattle.std.specs.Prelude.{Some, None, Ok, Err}
 use Rattle.day.specs.Calendar.{year_length, is_date}
 use Rattle.day.specs.Judgement.{holds, standing_of, lacks_dew_point, as_judged, judged, Answered}
 use Rattle.day.specs.declared.Earlier.{Earlier}
 use Rattle.day.specs.declared.Refusal.TheVariants.{BadDate, Missing}
-use Rattle.day.specs.declared.Verdict.TheVariants.{Figure, Refused}
+use Rattle.day.specs.declared.Figure.TheVariants.{Measured}
 use Rattle.day.proofs.Examples.{days}
 use Rattle.answers.specs.Answers.{day_answer, answer_bytes, bytes_of}
 use Rattle.records.specs.Bytes.{word_at, signed_of, signed_at}
@@ -38,15 +38,15 @@ unfolding station_at day_at word_at signed_of signed_at Answered
 answered = record { at = third; others = λ r t. days.0.answered r }
 
 -- days 10 and 11 lack the wind
-lacking : (judged (station_at sample 1) (day_at sample 20) (record { one = None; two = None; three = None }) ≡ Refused Missing)
-    × (judged (station_at sample 1) (day_at sample 37) (record { one = Some (pos 200); two = None; three = None }) ≡ Refused Missing)
+lacking : (judged (station_at sample 1) (day_at sample 20) (record { one = None; two = None; three = None }) ≡ Err Missing)
+    × (judged (station_at sample 1) (day_at sample 37) (record { one = Some (pos 200); two = None; three = None }) ≡ Err Missing)
 unfolding judged lacks_dew_point as_judged standing_of holds station_at day_at word_at signed_of signed_at is_date year_length
 lacking = (refl, refl)
 
 -- LIDW; day 10 and day 11 of 2008 refused with 7; day 12 with the figure 0
 pub worked : answers_to sample ≡
     answer.Station (station_at sample 1).code
-    ∷ answer.Day 2008 10 (Refused Missing) ∷ answer.Day 2008 11 (Refused Missing) ∷ answer.Day 2008 12 (Figure 0)
+    ∷ answer.Day 2008 10 (Err Missing) ∷ answer.Day 2008 11 (Err Missing) ∷ answer.Day 2008 12 (Ok (Measured 0))
     ∷ []
 unfolding reading_of read_from found_at station_at day_at word_at signed_of signed_at is_date year_length days_before good_date counted earlier_means verdict_of
 worked =
@@ -93,8 +93,8 @@ unfolding reading_of read_from found_at station_at day_at word_at signed_of sign
 year_end =
     day_there two_blocks 2 (record { station = station_at two_blocks 1; days = day_at two_blocks 20 ∷ []; crop = bare }) (day_at two_blocks 37) refl refl refl
 
-lacking_too : (judged (station_at two_blocks 1) (day_at two_blocks 20) (record { one = None; two = None; three = None }) ≡ Refused Missing)
-    × (judged (station_at two_blocks 1) (day_at two_blocks 37) (record { one = Some (pos 200); two = None; three = None }) ≡ Refused Missing)
+lacking_too : (judged (station_at two_blocks 1) (day_at two_blocks 20) (record { one = None; two = None; three = None }) ≡ Err Missing)
+    × (judged (station_at two_blocks 1) (day_at two_blocks 37) (record { one = Some (pos 200); two = None; three = None }) ≡ Err Missing)
 unfolding judged lacks_dew_point as_judged standing_of holds station_at day_at word_at signed_of signed_at is_date year_length
 lacking_too = (refl, refl)
 
@@ -121,6 +121,6 @@ two_blocks_lem =
     ++ (5 ∷ 76 ∷ 73 ∷ 68 ∷ 87 ∷ [])
     ++ answer_bytes (day_answer (day_at sample 20) (lacking.0 i))
     ++ answer_bytes (day_answer (day_at sample 37) (lacking.1 i))
-    ++ answer_bytes (day_answer (day_at sample 37) (Refused BadDate))
+    ++ answer_bytes (day_answer (day_at sample 37) (Err BadDate))
     ++ answer_bytes (day_answer (day_at sample 54) (days.0.told i))
     ++ drop 64 room

@@ -1,6 +1,6 @@
 -- What is promised of crop figures (document 02, W1), from the bytes: every answered day of a crop's season has the crop's answer right behind its own.
 -- One definition over any reader of logs. Assumes nothing.
-use Rattle.std.specs.Prelude.{true, List, ◌++◌, ◌≡◌, ℕ, ◌+◌, ◌*◌, ◌≤◌, take, drop}
+use Rattle.std.specs.Prelude.{true, List, ◌++◌, ◌≡◌, ℕ, ◌+◌, ◌*◌, ◌≤◌, take, drop, Ok}
 use Rattle.crops.specs.Bound.{CropWithin, CropWithinBound, proved_crop_bound}
 use Rattle.crops.specs.Crop.{in_season, crop_figure}
 use Rattle.crops.specs.declared.Crop.{Crop}
@@ -24,7 +24,7 @@ pub record CropDay (s : List ℕ) (i : ℕ) (st : Station) (x : Day) (earlier : 
 pub record CropFigureAt (st : Station) (x : Day) (earlier : Earlier) (place : ℕ) (c : Crop) (after : List ℕ) : Type 0 where
   pub reference : ℕ
   pub figure : ℕ
-  pub own : take 9 (drop place after) ≡ dated (kind_of (with_mark x reference)) x.year x.d reference
+  pub own : take 9 (drop place after) ≡ dated (kind_of (Ok (with_mark x reference))) x.year x.d reference
   pub behind : take 9 (drop (place + 9) after) ≡ lettered 7 c.code ++ four figure
   pub defined : figure ≡ crop_figure c x.d reference
   pub twice : figure ≤ 2 * reference

@@ -2,13 +2,12 @@
 -- the rules answer is refused. One definition over any reader of logs and any judge of days. Assumes nothing.
 use Rattle.std.specs.Prelude.{true, false, List, ◌≡◌, ℕ, T, leb, length, take, drop}
 use Rattle.day.specs.Bound.{WithinBound, JudgesWithinBound}
-use Rattle.day.specs.Judgement.{holds, as_judged, with_mark}
+use Rattle.day.specs.Judgement.{holds, as_judged, with_mark, Verdict}
 use Rattle.day.specs.Rules.{number_of}
 use Rattle.day.specs.declared.Day.{Day}
 use Rattle.day.specs.declared.Earlier.{Earlier}
 use Rattle.day.specs.declared.Refusal.{Refusal}
 use Rattle.day.specs.declared.Station.{Station}
-use Rattle.day.specs.declared.Verdict.{Verdict}
 use Rattle.answers.specs.Answers.{kind_of, dated}
 use Rattle.promises.specs.Days.{DayAt}
 use Rattle.station_log.specs.Log.{outcome_of}
@@ -30,7 +29,7 @@ pub record AnsweredDay (s : List ℕ) (i : ℕ) (st : Station) (x : Day) (earlie
 -- its year and `d`, and a figure within the bound. The equation is fed the day as it is judged.
 unfoldable pub FigureAt : Station → Day → Earlier → ℕ → List ℕ → Type 0
 FigureAt st x earlier place after =
-    (n : ℕ) × (take 9 (drop place after) ≡ dated (kind_of (with_mark x n)) x.year x.d n) × WithinBound st (as_judged x) earlier n
+    (n : ℕ) × (take 9 (drop place after) ≡ dated (kind_of (Ok (with_mark x n))) x.year x.d n) × WithinBound st (as_judged x) earlier n
 
 -- "An answered day gets a figure and no refusal": no log that the rules answer is refused, with an answered day or without. Which length is returned
 -- `Read` says, and not the demand.

@@ -1,7 +1,7 @@
 -- The answers to a log have the months of each block in date order, since the dates of a block's answered days are (`answers_ordered`). Assumes nothing.
 use mathlib.Core.Path.{◌≡◌, refl, sym, ap, subst}
 use mathlib.Core.Bool.{true}
-use Rattle.std.specs.Prelude.{Some}
+use Rattle.std.specs.Prelude.{Some, Ok, Err}
 use mathlib.Core.List.{List, [], ◌∷◌}
 use mathlib.Core.Logic.{⊎_elim}
 use Prim.Native.Nat.{ℕ, ◌≤◌, ◌<◌}
@@ -9,7 +9,7 @@ use native.Mathlib.Omega.{arith}
 use Rattle.answers.specs.Answers.{Role, opens, of_day, beside, role_of}
 use Rattle.answers.specs.declared.Answer.{Answer}
 use Rattle.day.specs.Calendar.{is_date}
-use Rattle.day.specs.declared.Verdict.TheVariants.{Figure, Refused, Estimated}
+use Rattle.day.specs.declared.Figure.TheVariants.{Measured, Estimated}
 use Rattle.station_log.proofs.DateOrder.{Next, FirstInOrder, InDateOrder, in_date_order, by_number}
 use Rattle.station_log.specs.History.{day_number}
 use Rattle.station_log.specs.Log.{answers_to}
@@ -59,10 +59,10 @@ own_ordered k last (a ∷ rest) b h = by (role_of a) refl h (λ (j next : ℕ). 
     by : (r : Role) → role_of a ≡ r → FirstInOrder last r (λ next. InDateOrder next rest)
         → ((j next : ℕ) → NotBefore j next → InDateOrder next rest → InMonthOrder j (own rest)) → InMonthOrder k (own_from r a (own rest))
     by (opens code) e h later = tt
-    by (of_day year d (Figure n)) e h later =
+    by (of_day year d (Ok (Measured n))) e h later =
         rw e (comes k last year d n b h.0, later (month_after year d) (day_number year d) (from_a_date year d h.0.0) h.1)
-    by (of_day year d (Refused why)) e h later = rw e (tt, later k last b h)
-    by (of_day year d (Estimated n)) e h later =
+    by (of_day year d (Err why)) e h later = rw e (tt, later k last b h)
+    by (of_day year d (Ok (Estimated n))) e h later =
         rw e (comes k last year d n b h.0, later (month_after year d) (day_number year d) (from_a_date year d h.0.0) h.1)
     by beside e h later = rw e (tt, later k last b h)
 
@@ -72,9 +72,9 @@ rest_in_order last a rest = by (role_of a)
   where
     by : (r : Role) → FirstInOrder last r (λ next. InDateOrder next rest) → (next : ℕ) × InDateOrder next rest
     by (opens code) h = (0, h)
-    by (of_day year d (Figure n)) h = (day_number year d, h.1)
-    by (of_day year d (Refused why)) h = (last, h)
-    by (of_day year d (Estimated n)) h = (day_number year d, h.1)
+    by (of_day year d (Ok (Measured n))) h = (day_number year d, h.1)
+    by (of_day year d (Ok (Estimated n))) h = (day_number year d, h.1)
+    by (of_day year d (Err why)) h = (last, h)
     by beside h = (last, h)
 
 ordered : (last : ℕ) (l : List Answer) → InDateOrder last l → Ordered l

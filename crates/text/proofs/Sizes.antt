@@ -11,11 +11,12 @@ use native.Mathlib.Omega.{arith}
 use lib.Dec.{eqb}
 use lib.ListN.{length, length-append}
 use borrow.Author.Tests.{eqb-false}
+use Rattle.std.specs.Prelude.{Ok, Err}
 use Rattle.answers.specs.Answers.{Role, opens, of_day, beside, role_of}
 use Rattle.answers.specs.declared.Answer.{Answer}
 use Rattle.answers.proofs.Roles.{Count, count, count_append, Moderate}
 use Rattle.day.specs.declared.Code.{Code}
-use Rattle.day.specs.declared.Verdict.TheVariants.{Figure, Refused, Estimated}
+use Rattle.day.specs.declared.Figure.TheVariants.{Measured, Estimated}
 use Rattle.day.proofs.FigureLimit.{most_figure}
 use Rattle.lines.proofs.Lengths.{month_line_of_log, month_line_of_day, season_line_of_log}
 use Rattle.station_log.proofs.Longest.{most_days}
@@ -82,9 +83,9 @@ total_most chosen (a ∷ rest) h = by (role_of a) (owed a h.0.1) (total_most cho
     by : (r : Role) → Owed r a → Bounded (count rest).days (total_of chosen rest)
         → Bounded (count (a ∷ rest)).days (plus (share_of chosen (counted_in r)) (total_of chosen rest))
     by (opens code) o most = with_none (total_of chosen rest) most (omega arith)
-    by (of_day year d (Figure n)) o most = with_one (total_of chosen rest) most (omega (arith, o.1)) (chosen year (month_of year d)) o.0
-    by (of_day year d (Refused why)) o most = with_none (total_of chosen rest) most (omega arith)
-    by (of_day year d (Estimated n)) o most = with_one (total_of chosen rest) most (omega (arith, o.1)) (chosen year (month_of year d)) o.0
+    by (of_day year d (Ok (Measured n))) o most = with_one (total_of chosen rest) most (omega (arith, o.1)) (chosen year (month_of year d)) o.0
+    by (of_day year d (Ok (Estimated n))) o most = with_one (total_of chosen rest) most (omega (arith, o.1)) (chosen year (month_of year d)) o.0
+    by (of_day year d (Err why)) o most = with_none (total_of chosen rest) most (omega arith)
     by beside o most = with_none (total_of chosen rest) most (omega arith)
 
 -- ---- the lines of one block

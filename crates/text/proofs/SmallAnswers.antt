@@ -7,18 +7,18 @@ use Prim.Native.Nat.{ℕ, ◌+◌, ◌≤◌, ◌<◌}
 use native.Mathlib.Omega.{arith}
 use lib.Dec.{lit≤}
 use lib.ListN.{length, get_or}
+use Rattle.std.specs.Prelude.{Ok, Err}
 use Rattle.answers.specs.Answers.{Role}
 use Rattle.answers.specs.declared.Answer.{Answer}
 use Rattle.answers.proofs.Roles.{AllBeside, AllModerate}
 use Rattle.day.specs.Calendar.{is_date}
-use Rattle.day.specs.Judgement.{holds, judged}
+use Rattle.day.specs.Judgement.{holds, judged, Verdict}
 use Rattle.day.specs.declared.Code.{Code}
 use Rattle.day.specs.declared.Day.{Day}
 use Rattle.day.specs.declared.Refusal.{Refusal}
 use Rattle.day.specs.declared.Refusal.TheVariants.{BadDate}
 use Rattle.day.specs.declared.Station.{Station}
-use Rattle.day.specs.declared.Verdict.{Verdict}
-use Rattle.day.specs.declared.Verdict.TheVariants.{Figure, Refused, Estimated}
+use Rattle.day.specs.declared.Figure.TheVariants.{Measured, Estimated}
 use Rattle.day.specs.Bound.{FigureAtMost}
 use Rattle.day.proofs.Dates.{date_tells}
 use Rattle.day.proofs.FigureLimit.{most_figure, figure_most}
@@ -66,11 +66,11 @@ module _ (s : List ℕ) (bytes : AreBytes s) where
 
   module _ (code : Code) (x : Station) (h : List Day) (y : Day) (sound : Sound s x) (found : (i : ℕ) × (y ≡ day_at s i)) where
     -- a refusal has two digits at most, and each number of the date five
-    refused_most : (r : Refusal) → length (day_line code y.year y.d (Refused r)) ≤ 23
+    refused_most : (r : Refusal) → length (day_line code y.year y.d (Err r)) ≤ 23
     refused_most r =
         omega (
           arith,
-          day_line_size code y.year y.d (Refused r),
+          day_line_size code y.year y.d (Err r),
           padded_most 4 4 y.year (omega arith) (omega (arith, (dated_small found).0)),
           padded_most 4 3 y.d (omega arith) (omega (arith, (dated_small found).1)),
           refusal_most r,
@@ -96,9 +96,9 @@ module _ (s : List ℕ) (bytes : AreBytes s) where
         cond_both (good_date h y) _ _ Fits (λ good. by (judged x y (earlier_means h y)) (figure_most x y (earlier_means h y) (station_constants sound)) (good_date_lem h y good)) (λ bad. refused_most BadDate)
       where
         by : (v : Verdict) → FigureAtMost most_figure v → is_date y.year y.d ≡ true → Fits v
-        by (Figure n) small date = dated_line_most date (Figure n) (omega (arith, inches_most 0 n (omega arith)))
-        by (Refused r) small date = refused_most r
-        by (Estimated n) small date = dated_line_most date (Estimated n) (omega (arith, estimate_size n, inches_most 0 n (omega arith)))
+        by (Ok (Measured n)) small date = dated_line_most date (Ok (Measured n)) (omega (arith, inches_most 0 n (omega arith)))
+        by (Ok (Estimated n)) small date = dated_line_most date (Ok (Estimated n)) (omega (arith, estimate_size n, inches_most 0 n (omega arith)))
+        by (Err r) small date = refused_most r
 
   -- ---- the answers
 

@@ -1,7 +1,7 @@
 -- What is owed of a report's totals is met by every log (`totals_owed`). Assumes nothing.
 use mathlib.Core.Path.{◌≡◌, sym, ap, ◌∙◌, subst, subst₂}
 use mathlib.Core.Bool.{Bool, true, cond}
-use Rattle.std.specs.Prelude.{Some}
+use Rattle.std.specs.Prelude.{Some, Ok}
 use mathlib.Core.List.{List, [], ◌∷◌, ◌++◌, append_assoc}
 use mathlib.Core.Logic.{◌⊎◌, ⊎_elim}
 use Prim.Native.Nat.{ℕ}
@@ -10,8 +10,8 @@ use Rattle.answers.specs.declared.Answer.{Answer}
 use Rattle.answers.specs.declared.Answer.TheVariants as answer
 use Rattle.day.specs.Calendar.{is_date}
 use Rattle.day.specs.declared.Code.{Code}
-use Rattle.day.specs.declared.Verdict.{Verdict}
-use Rattle.day.specs.declared.Verdict.TheVariants.{Figure, Estimated}
+use Rattle.day.specs.Judgement.{Verdict}
+use Rattle.day.specs.declared.Figure.TheVariants.{Measured, Estimated}
 use Rattle.station_log.proofs.DateOrder.{InDateOrder, in_date_order}
 use Rattle.station_log.specs.Log.{answers_to}
 use Rattle.totals.specs.Months.{month_of}
@@ -44,16 +44,16 @@ block_ordered (a ∷ before) rest code h = block_ordered before rest code h.1
 
 -- ---- an answered day
 
-module _ (year d : ℕ) (v : Verdict) (n : ℕ) (kind : (v ≡ Figure n) ⊎ (v ≡ Estimated n)) where
+module _ (year d : ℕ) (v : Verdict) (n : ℕ) (kind : (v ≡ Ok (Measured n)) ⊎ (v ≡ Ok (Estimated n))) where
   counted : counted_of (answer.Day year d v) ≡ Some (record { year = year; month = month_of year d; n = n })
   counted =
-      ⊎_elim (λ (e : v ≡ Figure n). ap (λ (w : Verdict). counted_of (answer.Day year d w)) e)
-      (λ (e : v ≡ Estimated n). ap (λ (w : Verdict). counted_of (answer.Day year d w)) e) kind
+      ⊎_elim (λ (e : v ≡ Ok (Measured n)). ap (λ (w : Verdict). counted_of (answer.Day year d w)) e)
+      (λ (e : v ≡ Ok (Estimated n)). ap (λ (w : Verdict). counted_of (answer.Day year d w)) e) kind
 
   first_dated : (last : ℕ) (rest : List Answer) → InDateOrder last (answer.Day year d v ∷ rest) → is_date year d ≡ true
   first_dated last rest h =
-      ⊎_elim (λ (e : v ≡ Figure n). (subst (λ (w : Verdict). InDateOrder last (answer.Day year d w ∷ rest)) e h).0.0)
-      (λ (e : v ≡ Estimated n). (subst (λ (w : Verdict). InDateOrder last (answer.Day year d w ∷ rest)) e h).0.0) kind
+      ⊎_elim (λ (e : v ≡ Ok (Measured n)). (subst (λ (w : Verdict). InDateOrder last (answer.Day year d w ∷ rest)) e h).0.0)
+      (λ (e : v ≡ Ok (Estimated n)). (subst (λ (w : Verdict). InDateOrder last (answer.Day year d w ∷ rest)) e h).0.0) kind
 
   dated : (last : ℕ) (before rest : List Answer) → InDateOrder last (before ++ answer.Day year d v ∷ rest) → is_date year d ≡ true
   dated last [] rest h = first_dated last rest h

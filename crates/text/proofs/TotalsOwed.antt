@@ -3,11 +3,12 @@ use mathlib.Core.Path.{◌≡◌}
 use mathlib.Core.List.{List, ◌∷◌, ◌++◌}
 use mathlib.Core.Logic.{◌⊎◌}
 use Prim.Native.Nat.{ℕ, ◌<◌}
+use Rattle.std.specs.Prelude.{Ok}
 use Rattle.answers.specs.declared.Answer.{Answer}
 use Rattle.answers.specs.declared.Answer.TheVariants as answer
 use Rattle.day.specs.declared.Code.{Code}
-use Rattle.day.specs.declared.Verdict.{Verdict}
-use Rattle.day.specs.declared.Verdict.TheVariants.{Figure, Estimated}
+use Rattle.day.specs.Judgement.{Verdict}
+use Rattle.day.specs.declared.Figure.TheVariants.{Measured, Estimated}
 use Rattle.station_log.specs.Log.{answers_to}
 use Rattle.totals.specs.Months.{year_at, month_at, months}
 use Rattle.totals.proofs.Calendar.{InMonth}
@@ -27,7 +28,7 @@ pub record AnsweredIn (answers : List Answer) (year d : ℕ) (v : Verdict) (n : 
   pub before : List Answer
   pub rest : List Answer
   pub stands : answers ≡ before ++ answer.Day year d v ∷ rest
-  pub kind : (v ≡ Figure n) ⊎ (v ≡ Estimated n)
+  pub kind : (v ≡ Ok (Measured n)) ⊎ (v ≡ Ok (Estimated n))
 
 -- The day adds itself and its figure to the total of one month, and nothing to that of another. By the calendar it is a day of that month, and the
 -- month is one of those that can have a line.

@@ -6,7 +6,7 @@ use mathlib.Core.List.{List, [], ◌∷◌, ◌++◌}
 use mathlib.Core.Logic.{inl}
 use Prim.Native.Nat.{ℕ}
 use lib.IntN.{ℤ, pos, negsuc}
-use Rattle.std.specs.Prelude.{Some, None}
+use Rattle.std.specs.Prelude.{Some, None, Ok, Err}
 use Rattle.tables.specs.Values.{sum_to, more, exp_sum, sin_sum, rounded, curve_at, arc_sum, arc_sums, bell_sums, first}
 use Rattle.sheet.specs.declared.Entries.{Entries}
 use Rattle.sheet.specs.StepSheet as sheet
@@ -15,7 +15,7 @@ use Rattle.day.specs.Judgement.{readings_of, entries_of, clear_of, means_of, ear
 use Rattle.day.specs.declared.Day.{Day}
 use Rattle.day.specs.declared.Earlier.{Earlier}
 use Rattle.day.specs.declared.Refusal.TheVariants.{Missing}
-use Rattle.day.specs.declared.Verdict.TheVariants.{Figure, Refused, Estimated}
+use Rattle.day.specs.declared.Figure.TheVariants.{Measured, Estimated}
 use Rattle.day.proofs.Examples.{Worked, worked, station, constants, pressure, roots}
 use Rattle.answers.specs.Answers.{day_answer}
 use Rattle.answers.specs.declared.Answer.{Answer}
@@ -64,10 +64,10 @@ means = record { one = Some (pos 410); two = Some (pos 400); three = None }
 abbrev at : ℕ → ℕ → ℕ → ℕ → ℕ → Entries
 at albedo a1 aw bw p = record { albedo = pos albedo; a1 = pos a1; aw = pos aw; bw = pos bw; p = pos p }
 
-days : Worked station december31 no_mean Figure 298
-    × Worked station january1 (one_mean 400) Figure 173
-    × Worked station february28 no_mean Figure 535
-    × Worked station february29 (one_mean 400) Figure 523
+days : Worked station december31 no_mean Measured 298
+    × Worked station january1 (one_mean 400) Measured 173
+    × Worked station february28 no_mean Measured 535
+    × Worked station february29 (one_mean 400) Measured 523
     × Worked station march1 means Estimated 519
 unfolding curve_at rounded arc_sum arc_sums sin_sum bell_sums exp_sum sum_to more lacks_dew_point as_judged with_mark entries_of standing_of holds is_date year_length readings_of clear_of means_of earlier_of sheet.sum_of sheet.clear_sum sheet.Q sheet.above_twice_clear sheet.U sheet.V2 sheet.V4 sheet.V6 sheet.V7 sheet.V8 sheet.e sheet.D sheet.M sheet.g sheet.w1 sheet.w2 sheet.ρ sheet.K sheet.N sheet.fourth_power sheet.B sheet.emittance sheet.Rb sheet.S sheet.Rn sheet.soil_heat sheet.H sheet.counted_wind sheet.Wf sheet.«V» sheet.T sheet.drying sheet.A sheet.Figure
 days =
@@ -98,16 +98,16 @@ months_log =
     ++ record_of 216 0 59 144 1 64 ++ record_of 216 0 60 154 1 64 ++ record_of 216 0 61 164 128 0
     ++ sample.station ++ windless 92 1 144
 
-lacking : (judged (station_at months_log 1) (day_at months_log 54) no_mean ≡ Refused Missing)
-    × (judged (station_at months_log 122) (day_at months_log 141) no_mean ≡ Refused Missing)
+lacking : (judged (station_at months_log 1) (day_at months_log 54) no_mean ≡ Err Missing)
+    × (judged (station_at months_log 122) (day_at months_log 141) no_mean ≡ Err Missing)
 unfolding judged lacks_dew_point as_judged standing_of holds station_at day_at word_at signed_of signed_at is_date year_length
 lacking = (refl, refl)
 
 pub worked_months : answers_to months_log ≡
     answer.Station (station_at months_log 1).code
-    ∷ answer.Day 2007 365 (Figure 298) ∷ answer.Day 2008 1 (Figure 173) ∷ answer.Day 2008 32 (Refused Missing)
-    ∷ answer.Day 2008 59 (Figure 535) ∷ answer.Day 2008 60 (Figure 523) ∷ answer.Day 2008 61 (Estimated 519)
-    ∷ answer.Station (station_at months_log 1).code ∷ answer.Day 2008 92 (Refused Missing)
+    ∷ answer.Day 2007 365 (Ok (Measured 298)) ∷ answer.Day 2008 1 (Ok (Measured 173)) ∷ answer.Day 2008 32 (Err Missing)
+    ∷ answer.Day 2008 59 (Ok (Measured 535)) ∷ answer.Day 2008 60 (Ok (Measured 523)) ∷ answer.Day 2008 61 (Ok (Estimated 519))
+    ∷ answer.Station (station_at months_log 1).code ∷ answer.Day 2008 92 (Err Missing)
     ∷ []
 unfolding reading_of read_from found_at station_at day_at word_at signed_of signed_at is_date year_length days_before good_date counted earlier_means verdict_of
 worked_months =
@@ -143,22 +143,22 @@ with_months = (λ i. told (worked_months i)) ∙ in_turn months_log worked_month
 
 -- the first block, and 29 February in it: every hypothesis of `totals_owed` is met
 abbrev february : List Answer
-february = answer.Day 2007 365 (Figure 298) ∷ answer.Day 2008 1 (Figure 173) ∷ answer.Day 2008 32 (Refused Missing) ∷ answer.Day 2008 59 (Figure 535) ∷ []
+february = answer.Day 2007 365 (Ok (Measured 298)) ∷ answer.Day 2008 1 (Ok (Measured 173)) ∷ answer.Day 2008 32 (Err Missing) ∷ answer.Day 2008 59 (Ok (Measured 535)) ∷ []
 
 abbrev march : List Answer
-march = answer.Day 2008 61 (Estimated 519) ∷ []
+march = answer.Day 2008 61 (Ok (Estimated 519)) ∷ []
 
-pub first_block : BlockOf months_log (station_at months_log 1).code (february ++ answer.Day 2008 60 (Figure 523) ∷ march)
+pub first_block : BlockOf months_log (station_at months_log 1).code (february ++ answer.Day 2008 60 (Ok (Measured 523)) ∷ march)
 first_block =
     record {
       before = [];
-      rest = february ++ answer.Day 2008 60 (Figure 523) ∷ (march ++ answer.Station (station_at months_log 1).code ∷ answer.Day 2008 92 (Refused Missing) ∷ []);
+      rest = february ++ answer.Day 2008 60 (Ok (Measured 523)) ∷ (march ++ answer.Station (station_at months_log 1).code ∷ answer.Day 2008 92 (Err Missing) ∷ []);
       stands = worked_months;
       its = refl;
     }
 
-pub leap_day : CountsOnce 2008 60 (Figure 523) 523
+pub leap_day : CountsOnce 2008 60 (Ok (Measured 523)) 523
 unfolding TotalsOwed
 leap_day =
-    (totals_owed months_log (station_at months_log 1).code (february ++ answer.Day 2008 60 (Figure 523) ∷ march) first_block).once 2008 60 (Figure 523) 523
+    (totals_owed months_log (station_at months_log 1).code (february ++ answer.Day 2008 60 (Ok (Measured 523)) ∷ march) first_block).once 2008 60 (Ok (Measured 523)) 523
     (record { before = february; rest = march; stands = refl; kind = inl refl })

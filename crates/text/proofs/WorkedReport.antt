@@ -16,13 +16,12 @@ use Rattle.records.specs.Record.{station_at, day_at, crop_at, found_at}
 use Rattle.day.specs.Calendar.{year_length, is_date}
 use Rattle.day.specs.Judgement.{holds, standing_of, lacks_dew_point, as_judged, judged}
 use Rattle.day.specs.declared.Refusal.TheVariants.{Missing}
-use Rattle.day.specs.declared.Verdict.TheVariants.{Refused}
 use Rattle.station_log.specs.History.{days_before, good_date, counted, earlier_means, verdict_of}
 use Rattle.tables.specs.Values.{first}
 use Rattle.totals.specs.Months.{days_by, month_of}
 use Rattle.station_log.specs.Log.{answers_to, read_from, reading_of, outcome_of}
 use Rattle.station_log.proofs.Sample.{sample, fields, station, windless}
-use Rattle.std.specs.Prelude.{Ok}
+use Rattle.std.specs.Prelude.{Ok, Err}
 use Rattle.station_log.specs.Log.{refusal}
 use Rattle.station_log.specs.declared.Fault.TheVariants.{ShortBuffer}
 use Rattle.promises.proofs.WorkedLog.{worked}
@@ -129,8 +128,8 @@ abbrev two_codes : List ℕ
 two_codes = (1 ∷ 76 ∷ 73 ∷ 68 ∷ 88 ∷ drop 4 fields) ++ windless 10 0 200 ++ station ++ windless 11 0 200
 
 codes_worked : answers_to two_codes ≡
-    answer.Station (station_at two_codes 1).code ∷ answer.Day 2008 10 (Refused Missing)
-    ∷ answer.Station (station_at two_codes 37).code ∷ answer.Day 2008 11 (Refused Missing)
+    answer.Station (station_at two_codes 1).code ∷ answer.Day 2008 10 (Err Missing)
+    ∷ answer.Station (station_at two_codes 37).code ∷ answer.Day 2008 11 (Err Missing)
     ∷ []
 unfolding reading_of read_from found_at station_at day_at word_at signed_of signed_at is_date year_length days_before good_date counted earlier_means verdict_of judged lacks_dew_point as_judged standing_of holds
 codes_worked = refl

@@ -1,8 +1,8 @@
 -- The totals of a block's answers, by the month and for the season, by document 02, W5. Assumes nothing.
-use Rattle.std.specs.Prelude.{Option, Some, None, Bool, true, cond, ◌&&◌, List, [], ◌∷◌, ◌++◌, ℕ, zero, suc, ◌+◌, eqb}
+use Rattle.std.specs.Prelude.{Option, Some, None, Bool, true, cond, ◌&&◌, List, [], ◌∷◌, ◌++◌, ℕ, zero, suc, ◌+◌, eqb, Ok, Err}
 use Rattle.answers.specs.Answers.{Role, opens, of_day, beside, role_of}
 use Rattle.answers.specs.declared.Answer.{Answer}
-use Rattle.day.specs.declared.Verdict.TheVariants as verdict
+use Rattle.day.specs.declared.Figure.TheVariants.{Measured, Estimated}
 use Rattle.totals.specs.Months.{year_at, month_at, month_of}
 use Rattle.totals.specs.declared.tally.Counted.{Counted}
 use Rattle.totals.specs.declared.tally.Total.{Total}
@@ -10,9 +10,9 @@ use Rattle.totals.specs.declared.tally.Total.{Total}
 -- a day, with its figure, of a month: "the figures in the block's kind 3 and 9 answers"; "Kind 4 answers add nothing", nor do the others
 abbrev pub counted_in : Role → Option Counted
 counted_in (opens code) = None
-counted_in (of_day year d (verdict.Figure n)) = Some (record { year = year; month = month_of year d; n = n })
-counted_in (of_day year d (verdict.Refused r)) = None
-counted_in (of_day year d (verdict.Estimated n)) = Some (record { year = year; month = month_of year d; n = n })
+counted_in (of_day year d (Ok (Measured n))) = Some (record { year = year; month = month_of year d; n = n })
+counted_in (of_day year d (Ok (Estimated n))) = Some (record { year = year; month = month_of year d; n = n })
+counted_in (of_day year d (Err r)) = None
 counted_in beside = None
 
 abbrev pub counted_of : Answer → Option Counted

@@ -5,7 +5,7 @@ ghost use Rattle.totals.specs.Totals.{counted_of, one, plus, is_month};
 
 use crate::months::month_of;
 use answers::Answer;
-use day::Verdict;
+use day::Figure;
 use day::calendar::FIRST_YEAR;
 
 // Days answered and the sum of their figures, in 0.0001 inch.
@@ -38,12 +38,12 @@ pub fn counted_of(a: Answer) -> Option<Counted>
 {
     match a {
         Answer::Station(_) => None,
-        Answer::Day(year, d, Verdict::Figure(n) | Verdict::Estimated(n)) => Some(Counted {
+        Answer::Day(year, d, Ok(Figure::Measured(n) | Figure::Estimated(n))) => Some(Counted {
             year,
             month: month_of(year, d),
             n,
         }),
-        Answer::Day(_, _, Verdict::Refused(_)) => None,
+        Answer::Day(_, _, Err(_)) => None,
         Answer::Crop(_, _) => None,
     }
 }

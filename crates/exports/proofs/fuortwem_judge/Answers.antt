@@ -5,7 +5,7 @@ use lib.IntN.{ℤ}
 use mir.Facts.{to_z-of_z}
 use mir.Syntax.{w16}
 use mir.Val.{SFits, to_z, of_z}
-use Rattle.std.specs.Prelude.{Option}
+use Rattle.std.specs.Prelude.{Option, Ok}
 use Rattle.day.specs.Judgement.{judged}
 use Rattle.day.specs.declared.Day.{Day}
 use Rattle.day.specs.declared.Earlier.{Earlier}
@@ -55,13 +55,15 @@ judged_said c r says =
     _ r c.judge.ensures.value c.judge.ensures.figure_owed says in
     record { result_value = met.0; figure_said = met.1 }
 
-pub returns-in-Figure : goal.returns-in-Figure
-returns-in-Figure c = judged_said c.before.before _ (c.packed.ensures ∙ ap verdict_said (sym c.in-Figure.is))
+pub returns-in-Ok-Measured : goal.returns-in-Ok-Measured
+returns-in-Ok-Measured c =
+    judged_said c.before.before _ (c.packed.ensures ∙ ap verdict_said (sym (c.in-Ok-Measured.is ∙ ap Ok c.in-Ok-Measured.field-0-is)))
 
-pub returns-in-Refused : goal.returns-in-Refused
-returns-in-Refused c =
+pub returns-in-Ok-Estimated : goal.returns-in-Ok-Estimated
+returns-in-Ok-Estimated c =
+    judged_said c.before.before _ (c.packed-in-Ok-Estimated.ensures ∙ ap verdict_said (sym (c.in-Ok-Estimated.is ∙ ap Ok c.in-Ok-Estimated.field-0-is)))
+
+pub returns-in-Err : goal.returns-in-Err
+returns-in-Err c =
     judged_said c.before.before.before _
-    (c.packed-in-Refused.ensures ∙ ap (λ (k : ℕ). said k 0) c.into.ensures ∙ refusal_said c.in-Refused.why ∙ ap verdict_said (sym c.in-Refused.is))
-
-pub returns-in-Estimated : goal.returns-in-Estimated
-returns-in-Estimated c = judged_said c.before.before _ (c.packed-in-Estimated.ensures ∙ ap verdict_said (sym c.in-Estimated.is))
+    (c.packed-in-Err.ensures ∙ ap (λ (k : ℕ). said k 0) c.into.ensures ∙ refusal_said c.in-Err.why ∙ ap verdict_said (sym c.in-Err.is))

@@ -3,15 +3,14 @@ use mathlib.Core.Path.{◌≡◌, sym, ◌∙◌, ap, subst}
 use native.Mathlib.Omega.{arith}
 use mir.Syntax.{w16}
 use mir.Val.{SFits}
-use Rattle.std.specs.Prelude.{Result}
-use Rattle.day.specs.Judgement.{figure_of, as_judged, with_mark, verdict_with, judged}
+use Rattle.std.proofs.Common.{rules}
+use Rattle.std.specs.Prelude.{Result, Ok, Err}
+use Rattle.day.specs.Judgement.{figure_of, standing_of, as_judged, with_mark, verdict_with, judged, Verdict}
 use Rattle.day.specs.Bound.{SignedConstants, FigureOwed, JudgesWithinBound, FigureInRange}
 use Rattle.day.specs.declared.Station.{Station}
 use Rattle.day.specs.declared.Day.{Day}
 use Rattle.day.specs.declared.Earlier.{Earlier}
 use Rattle.day.specs.declared.Refusal.{Refusal}
-use Rattle.day.specs.declared.Verdict.{Verdict}
-use Rattle.day.specs.declared.Verdict.TheVariants.{Refused}
 use Rattle.day.proofs.Tests.{in_word}
 use Rattle.day.proofs.Standings.{stands_answered, stands_as_judged}
 use Rattle.day.proofs.DayBound.{judged_within_bound}
@@ -27,32 +26,43 @@ owed : (st : Station) (day : Day) (earlier : Earlier) → SignedConstants st →
 unfolding JudgesWithinBound
 owed st day earlier constants e = subst (FigureOwed st day earlier) (sym e) (judged_within_bound st day earlier constants)
 
+-- what the standing says of the day is its verdict
+told : (st : Station) (day : Day) (earlier : Earlier) {s : Result (Unit {0}) Refusal} → s ≡ standing_of st (as_judged day) earlier
+    → verdict_with s (with_mark day (figure_of st (as_judged day) earlier)) ≡ judged st day earlier
+unfolding judged
+told st day earlier e = ap (λ (s : Result (Unit {0}) Refusal). verdict_with s (with_mark day (figure_of st (as_judged day) earlier))) e
+
 in_range : (st : Station) (day : Day) (earlier : Earlier) → SignedConstants st → {v : Verdict} → v ≡ judged st day earlier → FigureInRange v
 in_range st day earlier constants e = subst FigureInRange (sym e) (figure_in_range st day earlier constants)
 
-pub figure-requires : goal.figure-requires
-figure-requires c = stands_answered c.args.station c.as_judged-x.result c.args.earlier (sym c.standing.ensures ∙ c.in-Ok.is)
-
-pub returns-in-Err : goal.returns-in-Err
-unfolding judged
-returns-in-Err c =
+pub returns-in_err-standing : goal.returns-in_err-standing
+returns-in_err-standing c =
+    let same : c.from_residual.result ≡ Err c.in_err-standing.field-0.0 = search rules in
     let signed = constants c.args.station (omega arith) in
-    let e : Refused c.in-Err.why ≡ judged c.args.station c.args.day c.args.earlier =
-    ap (λ (x : Result (Unit {0}) Refusal). verdict_with x (with_mark c.args.day (figure_of c.args.station (as_judged c.args.day) c.args.earlier)))
-    (sym c.in-Err.is ∙ stands_as_judged c.args.station c.args.day c.args.earlier c.standing.ensures c.as_judged-x.ensures)
+    let e : c.from_residual.result ≡ judged c.args.station c.args.day c.args.earlier =
+    same
+    ∙ told c.args.station c.args.day c.args.earlier
+    (sym c.in_err-standing.was ∙ stands_as_judged c.args.station c.args.day c.args.earlier c.standing.ensures c.as_judged-x.ensures)
     in
-    record { value = e; figure_owed = owed c.args.station c.args.day c.args.earlier signed e; figure_in_range = tt }
+    record {
+      value = e;
+      figure_owed = owed c.args.station c.args.day c.args.earlier signed e;
+      figure_in_range = in_range c.args.station c.args.day c.args.earlier signed e;
+    }
 
-pub returns-in-Ok : goal.returns-in-Ok
-unfolding judged
-returns-in-Ok c =
+pub figure-requires : goal.figure-requires
+figure-requires c = stands_answered c.args.station c.as_judged-x.result c.args.earlier (sym c.standing.ensures ∙ c.in_ok-standing.was)
+
+pub returns : goal.returns
+returns c =
     let signed = constants c.args.station (omega arith) in
-    let e : c.with_mark.result ≡ judged c.args.station c.args.day c.args.earlier =
-    c.with_mark.ensures
+    let e : Ok c.with_mark.result ≡ judged c.args.station c.args.day c.args.earlier =
+    ap Ok
+    (c.with_mark.ensures
     ∙ ap (with_mark c.args.day)
-    (c.figure.ensures ∙ ap (λ (y : Day). figure_of c.args.station y c.args.earlier) c.as_judged-x.ensures)
-    ∙ ap (λ (x : Result (Unit {0}) Refusal). verdict_with x (with_mark c.args.day (figure_of c.args.station (as_judged c.args.day) c.args.earlier)))
-    (sym c.in-Ok.is ∙ stands_as_judged c.args.station c.args.day c.args.earlier c.standing.ensures c.as_judged-x.ensures)
+    (c.figure.ensures ∙ ap (λ (y : Day). figure_of c.args.station y c.args.earlier) c.as_judged-x.ensures))
+    ∙ told c.args.station c.args.day c.args.earlier
+    (sym c.in_ok-standing.was ∙ stands_as_judged c.args.station c.args.day c.args.earlier c.standing.ensures c.as_judged-x.ensures)
     in
     record {
       value = e;

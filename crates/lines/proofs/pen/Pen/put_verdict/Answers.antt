@@ -5,33 +5,39 @@ use Rattle.lines.proofs.pen.Pen.put_verdict.Goals as goal
 
 pub put_inches-requires : goal.put_inches-requires
 unfolding verdict_text
-put_inches-requires c = rw c.from.ensures (rw c.in-Figure.is at c.requires)
-
-pub put_byte-requires : goal.put_byte-requires
-unfolding verdict_text
-put_byte-requires c = front _ (rw c.in-Refused.is at c.requires)
-
-pub put_digits-requires : goal.put_digits-requires
-unfolding verdict_text
-put_digits-requires c = rw (c.from-in-Refused-2.ensures, c.from-in-Refused.ensures) (behind (rw c.in-Refused.is at c.requires) c.put_byte.ensures)
+put_inches-requires c =
+    let m = c.in-Ok-Measured in rw c.from.ensures (rw (m.is, rw m.is at m.field-0-is) at c.requires)
 
 -- a figure with the mark: the inches, a space and an E
-pub put_inches-requires-in-Estimated : goal.put_inches-requires-in-Estimated
+pub put_inches-requires-in-Ok-Estimated : goal.put_inches-requires-in-Ok-Estimated
 unfolding verdict_text
-put_inches-requires-in-Estimated c = rw c.from-in-Estimated.ensures (front _ (rw c.in-Estimated.is at c.requires))
+put_inches-requires-in-Ok-Estimated c =
+    let e = c.in-Ok-Estimated in rw c.from-in-Ok-Estimated.ensures (front _ (rw (e.is, rw e.is at e.field-0-is) at c.requires))
 
 pub put_bytes-requires : goal.put_bytes-requires
 unfolding verdict_text
-put_bytes-requires c = behind (rw (c.in-Estimated.is, ← c.from-in-Estimated.ensures) at c.requires) c.put_inches-in-Estimated.ensures
+put_bytes-requires c =
+    let e = c.in-Ok-Estimated in
+    behind (rw (e.is, rw e.is at e.field-0-is, ← c.from-in-Ok-Estimated.ensures) at c.requires) c.put_inches-in-Ok-Estimated.ensures
 
-pub returns-in-Figure : goal.returns-in-Figure
+pub put_byte-requires : goal.put_byte-requires
 unfolding verdict_text
-returns-in-Figure c = rw (c.in-Figure.is, ← c.from.ensures) c.put_inches.ensures
+put_byte-requires c = front _ (rw c.in-Err.is at c.requires)
 
-pub returns-in-Refused : goal.returns-in-Refused
+pub put_digits-requires : goal.put_digits-requires
 unfolding verdict_text
-returns-in-Refused c = rw (c.in-Refused.is, ← c.from-in-Refused.ensures, ← c.from-in-Refused-2.ensures) (then c.put_byte.ensures c.put_digits.ensures)
+put_digits-requires c = rw (c.from-in-Err-2.ensures, c.from-in-Err.ensures) (behind (rw c.in-Err.is at c.requires) c.put_byte.ensures)
 
-pub returns-in-Estimated : goal.returns-in-Estimated
+pub returns-in-Ok-Measured : goal.returns-in-Ok-Measured
 unfolding verdict_text
-returns-in-Estimated c = rw (c.in-Estimated.is, ← c.from-in-Estimated.ensures) (then c.put_inches-in-Estimated.ensures c.put_bytes.ensures)
+returns-in-Ok-Measured c = let m = c.in-Ok-Measured in rw (m.is, rw m.is at m.field-0-is, ← c.from.ensures) c.put_inches.ensures
+
+pub returns-in-Ok-Estimated : goal.returns-in-Ok-Estimated
+unfolding verdict_text
+returns-in-Ok-Estimated c =
+    let e = c.in-Ok-Estimated in
+    rw (e.is, rw e.is at e.field-0-is, ← c.from-in-Ok-Estimated.ensures) (then c.put_inches-in-Ok-Estimated.ensures c.put_bytes.ensures)
+
+pub returns-in-Err : goal.returns-in-Err
+unfolding verdict_text
+returns-in-Err c = rw (c.in-Err.is, ← c.from-in-Err.ensures, ← c.from-in-Err-2.ensures) (then c.put_byte.ensures c.put_digits.ensures)

@@ -4,7 +4,6 @@ use Prim.Native.Nat.{ℕ, ◌^◌, ◌≤◌, ◌<◌}
 use native.Mathlib.Omega.{arith}
 use lib.ListN.{length}
 use Rattle.day.specs.declared.Code.{Code}
-use Rattle.day.specs.declared.Verdict.{Verdict}
 use Rattle.lines.specs.Pen.{Fits}
 use Rattle.lines.specs.Text.{newline, padded, code_text, field, verdict_text, day_line}
 use Rattle.lines.specs.declared.pen.Pen.{Pen}
