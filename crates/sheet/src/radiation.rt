@@ -23,7 +23,7 @@ pub fn cloud_factor(s: i64, q: i64) -> i64
     ensures { (result ≡ sheet.K s q) × InRange quantities.cloud_factor result }
 {
     let rho = ratio(s, q);
-    let bright = (1_000_000_000 * s > 7 * q) as i64;
+    let bright = i64::from(1_000_000_000 * s > 7 * q);
     numbers::quotient((1_017 + 109 * bright) * rho, 1_000) - (60_000_000 + 10_000_000 * bright)
 }
 

@@ -1,6 +1,6 @@
 -- `sheet::radiation::cloud_factor` meets its contract: each step is safe in the ranges required, and the 1,017 pair plus a zero-or-one times the
 -- differences (02, W3) is the sheet's K. Assumes nothing.
-use mathlib.Core.Path.{◌≡◌, refl, ◌∙◌, ap₂}
+use mathlib.Core.Path.{◌≡◌, refl, ◌∙◌, ap, ap₂}
 use mathlib.Core.Bool.{Bool, true, false, cond}
 use mathlib.Core.List.{List, [], ◌∷◌}
 use native.Mathlib.Omega.{arith}
@@ -65,24 +65,24 @@ pub as_arithmetic : (s Q : ℤ) →
 unfolding K
 as_arithmetic s Q = by_test (λ (b : Bool). meaning factor (ρ s Q ∷ zero_or_one b ∷ [])) (is_bright s Q)
 
-module _ (c : goal.After-ratio-rho) where
+module _ (c : goal.After-from-bright) where
   abbrev compared : List ℤ
-  compared = c.before.args.s ∷ c.before.args.q ∷ []
+  compared = c.args.s ∷ c.args.q ∷ []
 
   choice_given : Given (quantities.radiation ∷ quantities.clear_day ∷ []) compared
-  choice_given = c.before.requires.0 and c.before.requires.1 and none
+  choice_given = c.requires.0 and c.requires.1 and none
 
   abbrev bright : Bool
   bright = lt_z (machine border compared) (machine reading compared)
 
-  bright_given : Given ((from 0 to 1) ∷ []) (zero_or_one bright ∷ [])
-  bright_given = zero_or_one_in bright and none
+  bright_given : Given ((from 0 to 1) ∷ []) (c.from-bright.result ∷ [])
+  bright_given = rw c.from-bright.ensures (zero_or_one_in bright) and none
 
-  ratio_is : (c.ratio-rho.result ≡ ρ c.before.args.s c.before.args.q) × InRange quantities.ratio c.ratio-rho.result
-  ratio_is = (c.ratio-rho.ensures.0 ∙ ap₂ ρ (to_z-of_z c.before.ranges.s) (to_z-of_z c.before.ranges.q), c.ratio-rho.ensures.1)
+  ratio_is : (c.ratio-rho.result ≡ ρ c.args.s c.args.q) × InRange quantities.ratio c.ratio-rho.result
+  ratio_is = (c.ratio-rho.ensures.0 ∙ ap₂ ρ (to_z-of_z c.ranges.s) (to_z-of_z c.ranges.q), c.ratio-rho.ensures.1)
 
   abbrev values : List ℤ
-  values = c.ratio-rho.result ∷ zero_or_one bright ∷ []
+  values = c.ratio-rho.result ∷ c.from-bright.result ∷ []
 
   given : Given (quantities.ratio ∷ (from 0 to 1) ∷ []) values
   given = c.ratio-rho.ensures.1 and bright_given
@@ -93,21 +93,19 @@ quotient_is c = quotient_gives (given c.before) share (lit 1_000) c.quotient.ens
 pub returns : goal.returns
 returns c =
     let b = c.before in
-    let s = b.before.args.s in
-    let q = b.before.args.q in
+    let s = c.args.s in
+    let q = c.args.q in
     let h = equal_of (bright_given b) (ratio_is b) factor quantities.cloud_factor tt in
     rw (quotient_is c) (
       h.0
+          ∙ ap (λ (z : ℤ). meaning factor (ρ s q ∷ z ∷ [])) c.from-bright.ensures
           ∙ ap₂ (λ (x y : ℤ). meaning factor (ρ s q ∷ zero_or_one (lt_z x y) ∷ [])) (equal (choice_given b) border tt) (equal (choice_given b) reading tt)
           ∙ as_arithmetic s q,
       h.1,
     )
 
-pub overflow_add-bright : goal.overflow_add-bright
-overflow_add-bright c = fits (given c) times tt
-
-pub overflow_mul-bright-4 : goal.overflow_mul-bright-4
-overflow_mul-bright-4 c = fits (given c) share tt
+pub overflow_mul-bright-2 : goal.overflow_mul-bright-2
+overflow_mul-bright-2 c = fits (given c) share tt
 
 pub quotient-requires : goal.quotient-requires
 quotient-requires c = quotient_asks (given c) share (lit 1_000) tt
