@@ -50,10 +50,7 @@ pub fn some_out_of_range(day: Day) -> bool
 pub fn mean_out_of_range(mean: Option<i16>) -> bool
     ensures { result ≡ mean_fault mean }
 {
-    match mean {
-        Some(f) => !Temperature(f).in_range(),
-        None => false,
-    }
+    mean.is_some_and(|f| !Temperature(f).in_range())
 }
 
 // Refusal 9: minimum > mean, mean > maximum, or dew point > maximum.
