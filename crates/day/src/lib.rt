@@ -52,7 +52,7 @@ pub struct Day {
 }
 
 // The means of the three calendar days before, in tenths, of those that have one.
-#[derive(Clone, Copy)]
+#[derive(Clone, Copy, Default)]
 pub struct Earlier {
     pub one: Option<i16>,
     pub two: Option<i16>,
