@@ -62,12 +62,12 @@ pub struct Earlier {
 // Why a day gets no figure; specs/Rules.antt gives each its number. 11 was a refusal once, and is given to nothing else.
 #[derive(Clone, Copy, Debug, PartialEq, Eq)]
 pub enum Refusal {
-    StationField,
-    BadDate,
-    Missing,
-    OutOfRange,
-    OutOfOrder,
-    AboveClear,
+    StationField = 3,
+    BadDate = 6,
+    Missing = 7,
+    OutOfRange = 8,
+    OutOfOrder = 9,
+    AboveClear = 10,
 }
 
 // A number that no refusal has.
@@ -101,14 +101,7 @@ impl From<Refusal> for u32 {
     ghost from_gives = { λ why number. number ≡ number_of why };
 
     fn from(why: Refusal) -> u32 {
-        match why {
-            Refusal::StationField => 3,
-            Refusal::BadDate => 6,
-            Refusal::Missing => 7,
-            Refusal::OutOfRange => 8,
-            Refusal::OutOfOrder => 9,
-            Refusal::AboveClear => 10,
-        }
+        why as u32
     }
 }
 
