@@ -8,15 +8,15 @@ ghost use Rattle.answers.specs.declared.Answer.TheVariants as answer;
 use crate::Answer;
 use crate::kind::Kind;
 use day::{Figure, Refusal, Verdict};
-use records::bytes::{code_at, word};
+use records::bytes::{bytes_at, code_at, word};
 
 // The number of four bytes at i, the high ones first.
-#[tactic(auto, unfolding(records::specs::Bytes::word_at))]
+#[tactic(auto, using(records::proofs::Stages::four_there), unfolding(records::specs::Bytes::word_at))]
 fn four_at(s: &[u8], i: usize) -> u32
     requires { i + 3 < length s.now }
     ensures { result ≡ word_at s.now i * 65536 + word_at s.now (i + 2) }
 {
-    u32::from_be_bytes([s[i], s[i + 1], s[i + 2], s[i + 3]])
+    u32::from_be_bytes(bytes_at(s, i))
 }
 
 // A day's answer with the verdict: the year and `d` stand behind the kind.
