@@ -21,8 +21,8 @@ pub const CROP_SIZE: usize = 9;
 #[derive(Clone, Copy)]
 pub enum Answer {
     Station(Code),
-    Day(u16, u16, Verdict),
-    Crop(Code, u32),
+    Day { year: u16, d: u16, verdict: Verdict },
+    Crop { code: Code, n: u32 },
 }
 
 impl Answer {
@@ -32,8 +32,8 @@ impl Answer {
     {
         match self {
             Answer::Station(_) => STATION_SIZE,
-            Answer::Day(_, _, _) => DAY_SIZE,
-            Answer::Crop(_, _) => CROP_SIZE,
+            Answer::Day { .. } => DAY_SIZE,
+            Answer::Crop { .. } => CROP_SIZE,
         }
     }
 }

@@ -24,7 +24,11 @@ fn day_at(answers: &[u8], at: usize, verdict: Verdict) -> Answer
     requires { at + 4 < length answers.now }
     ensures { result ≡ answer.Day (word_at answers.now (at + 1)) (word_at answers.now (at + 3)) verdict }
 {
-    Answer::Day(word(answers, at + 1), word(answers, at + 3), verdict)
+    Answer::Day {
+        year: word(answers, at + 1),
+        d: word(answers, at + 3),
+        verdict,
+    }
 }
 
 // The one answer whose bytes stand at an offset.
@@ -34,7 +38,10 @@ pub fn answer_at(answers: &[u8], at: usize) -> Answer
 {
     match Kind::try_from(answers[at]).unwrap() {
         Kind::Station => Answer::Station(code_at(answers, at + 1)),
-        Kind::Crop => Answer::Crop(code_at(answers, at + 1), four_at(answers, at + 5)),
+        Kind::Crop => Answer::Crop {
+            code: code_at(answers, at + 1),
+            n: four_at(answers, at + 5),
+        },
         Kind::Figure => day_at(answers, at, Ok(Figure::Measured(four_at(answers, at + 5)))),
         Kind::Estimate => day_at(answers, at, Ok(Figure::Estimated(four_at(answers, at + 5)))),
         Kind::Refusal => {

@@ -39,14 +39,14 @@ fn put_line<P: Page>(answers: Answers<'_>, block: Option<Block>, a: Answer, page
 {
     match (a, block) {
         (Answer::Station(_), _) => put_about(answers, block, page),
-        (Answer::Day(year, d, verdict), Some(b)) => page.put(DayLine {
+        (Answer::Day { year, d, verdict }, Some(b)) => page.put(DayLine {
             code: b.code,
             year,
             d,
             verdict,
         }),
-        (Answer::Crop(code, n), Some(_)) => page.put(CropLine { code, n }),
-        (Answer::Day(_, _, _) | Answer::Crop(_, _), None) => {}
+        (Answer::Crop { code, n }, Some(_)) => page.put(CropLine { code, n }),
+        (Answer::Day { .. } | Answer::Crop { .. }, None) => {}
     }
 }
 
@@ -56,7 +56,7 @@ fn open_after(block: Option<Block>, a: Answer, next: usize) -> Option<Block>
 {
     match a {
         Answer::Station(code) => Some(Block { code, from: next }),
-        Answer::Day(_, _, _) | Answer::Crop(_, _) => block,
+        Answer::Day { .. } | Answer::Crop { .. } => block,
     }
 }
 

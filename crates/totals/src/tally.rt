@@ -38,13 +38,20 @@ pub fn counted_of(a: Answer) -> Option<Counted>
 {
     match a {
         Answer::Station(_) => None,
-        Answer::Day(year, d, Ok(Figure::Measured(n) | Figure::Estimated(n))) => Some(Counted {
+        Answer::Day {
+            year,
+            d,
+            verdict: Ok(Figure::Measured(n) | Figure::Estimated(n)),
+        } => Some(Counted {
             year,
             month: month_of(year, d),
             n,
         }),
-        Answer::Day(_, _, Err(_)) => None,
-        Answer::Crop(_, _) => None,
+        Answer::Day {
+            verdict: Err(_),
+            ..
+        } => None,
+        Answer::Crop { .. } => None,
     }
 }
 
