@@ -10,7 +10,7 @@ use mir.Facts.{to_z-of_z}
 use mir.Val.{bool_byte}
 use Rattle.numbers.specs.Whole.{◌÷↓◌}
 use Rattle.numbers.specs.Ranges.{InRange, from◌to◌}
-use Rattle.numbers.proofs.Reflection.{MachineExpression, arg, lit, ◌+ᵐ◌, ◌-ᵐ◌, ◌*ᵐ◌, ◌÷↓ᵐ◌, Given, none, ◌and◌, machine, result, fits, equal, meaning, quotient_asks, quotient_gives}
+use Rattle.numbers.proofs.Reflection.{MachineExpression, arg, lit, ◌+ᵐ◌, ◌-ᵐ◌, ◌*ᵐ◌, ◌÷↓ᵐ◌, Given, none, ◌and◌, result, fits, equal, meaning, quotient_asks, quotient_gives}
 use Rattle.sheet.specs.Quantities as quantities
 use Rattle.sheet.specs.StepSheet.{ρ, K}
 use Rattle.sheet.proofs.Values.{equal_of}
@@ -72,11 +72,8 @@ module _ (c : goal.After-from-bright) where
   choice_given : Given (quantities.radiation ∷ quantities.clear_day ∷ []) compared
   choice_given = c.requires.0 and c.requires.1 and none
 
-  abbrev bright : Bool
-  bright = lt_z (machine border compared) (machine reading compared)
-
   bright_given : Given ((from 0 to 1) ∷ []) (c.from-bright.result ∷ [])
-  bright_given = rw c.from-bright.ensures (zero_or_one_in bright) and none
+  bright_given = rw c.from-bright.ensures (zero_or_one_in _) and none
 
   ratio_is : (c.ratio-rho.result ≡ ρ c.args.s c.args.q) × InRange quantities.ratio c.ratio-rho.result
   ratio_is = (c.ratio-rho.ensures.0 ∙ ap₂ ρ (to_z-of_z c.ranges.s) (to_z-of_z c.ranges.q), c.ratio-rho.ensures.1)
