@@ -10,7 +10,7 @@ use crate::kind::Kind;
 use day::{Figure, Refusal, Verdict};
 use records::bytes::{bytes_at, code_at, word};
 
-// The number of four bytes at i, the high ones first.
+// The number of four bytes at i, the high ones first. No generic function with `word`: `from_be_bytes` is of no trait.
 #[tactic(auto, using(records::proofs::Stages::four_there), unfolding(records::specs::Bytes::word_at))]
 fn four_at(s: &[u8], i: usize) -> u32
     requires { i + 3 < length s.now }

@@ -19,7 +19,7 @@ impl Crop {
         self.stages.iter().any(|p| HIGHEST < *p)
     }
 
-    // Refusal 13.
+    // Refusal 13. The years are tested here too, and not by `is_date`: a crop's record has a year and no day with it (`bad_crop`).
     #[tactic(auto, unfolding(crate::specs::Crop::bad_crop))]
     pub fn is_bad(self) -> bool
         ensures { result ≡ bad_crop self }

@@ -13,7 +13,7 @@ use crate::{Day, Station};
 use sheet::{Constants, Entries, Readings};
 use tables::DayTable;
 
-// The readings as the sheet takes them.
+// The readings as the sheet takes them: a function and no `From`, which would be the same list of fields, as it is defined (`readings_of`).
 #[tactic(auto, unfolding(crate::specs::Judgement::readings_of))]
 pub fn readings_of(day: Day) -> Readings
     ensures { result ≡ readings_of day }
@@ -43,7 +43,7 @@ pub fn entries_at(d: u16, elevation: u16) -> Entries
     }
 }
 
-// The clear-day radiation Q.
+// The clear-day radiation Q. The constants are made here and by no `From`, which would be the same list of fields.
 pub fn clear_of(station: Station, day: Day) -> i64
     requires { (1 ≤ day.d) × (day.d ≤ 366) × (50 ≤ station.minimum) × (station.minimum ≤ 200) }
     ensures { (result ≡ clear_of station day) × InRange quantities.clear_day result }

@@ -51,7 +51,8 @@ pub struct Day {
     pub wind: i16,
 }
 
-// The means of the three calendar days before, in tenths, of those that have one.
+// The means of the three calendar days before, in tenths, of those that have one: three fields, as the C interface hands them in, and as `means_of` and
+// `shifted` are defined of three.
 #[derive(Clone, Copy, Default)]
 pub struct Earlier {
     pub one: Option<i16>,

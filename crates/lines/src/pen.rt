@@ -1,4 +1,4 @@
-// What a line is made of, laid over a lent text where the pen stands. Behind it the pen stands right after what it has written.
+// What a line is made of, laid over a lent text where the pen stands. Afterwards the pen stands right behind what it has written.
 ghost use Rattle.std.specs.Prelude.{[], ◌∷◌, ◌%◌};
 ghost use Rattle.lines.specs.Pen.{Fits, Wrote};
 ghost use Rattle.lines.specs.Text.{digit, digits, padded, inches, code_text, field, verdict_text};

@@ -10,8 +10,8 @@ use std::io;
 use std::io::{Eprint, Print, Read};
 
 // Reads standard input to its end, or as far as there is room, and says how many bytes it read. By hand: `read_exact` says no length where the input ends
-// before the room does, and `read_to_end` takes a `Vec`. No read that failed is asked again: a connection that was reset fails once, and from then on
-// looks as if it had ended.
+// before the room does, and `read_to_end` takes a `Vec`. A read that failed is not tried again: a connection that was reset fails once, and
+// from then on looks as if it had ended.
 fn read_input(rt: HostRuntime, log: &mut [u8]) -> io::Result<usize>
     ensures { IfOk result (λ size. IsPrefixLen size log.new) }
 {

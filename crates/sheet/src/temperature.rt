@@ -24,7 +24,7 @@ pub fn vapour_pressure(f: i64) -> i64
     (v8 - 1_900 * (f + 160) + 1_316_000) * 338_639 / 100_000
 }
 
-// D, at the mean m.
+// D, at the mean m. Its powers begin as V4's do and are written out, since D needs U and V2 as well.
 pub fn slope(m: i64) -> i64
     requires { InRange quantities.temperature m }
     ensures { (result ≡ sheet.D m) × InRange quantities.slope result }

@@ -19,7 +19,7 @@ fn days_by(year: u16, i: u16) -> u16
     days + (year_length(year) - 365)
 }
 
-// The month of day d of the year, 1 for January: the least number of months that have d days or more. Day 0 gets 0, a day behind the year 13.
+// The month of day d of the year, 1 for January: the least number of months that have d days or more. Day 0 gets 0; a day past the year's end gets 13.
 pub fn month_of(year: u16, d: u16) -> u16
     ensures { result ≡ month_of year d }
 {

@@ -70,7 +70,7 @@ impl Total {
 }
 
 impl Tally {
-    // Before the first answer.
+    // Before the first answer: the first month of all is open with no day, as in `begun`, and a month without a day has no line.
     pub fn start() -> Tally
         ensures { result ≡ begun }
     {
