@@ -12,7 +12,7 @@ KEPT = {"if", "else", "match", "return", "let", "mut", "while", "loop", "for", "
 
 def functions(text):
     """Each function of a file: its name and its body, found by its braces."""
-    for found in re.finditer(r"(?m)^\s*(?:#\[[^\n]*\n\s*)*(?:pub )?(?:extern \"C\" )?fn (\w+)", text):
+    for found in re.finditer(r"(?m)^\s*(?:#\[[^\n]*\n\s*)*(?:pub(?:\(crate\))? )?(?:extern \"C\" )?fn (\w+)", text):
         start = re.compile(r"(?m)^\s*\{$|\) \{$|[^}] \{\s*$|^\{").search(text, found.end())
         if not start:
             continue
