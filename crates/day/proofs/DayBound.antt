@@ -12,7 +12,7 @@ use Rattle.numbers.proofs.Order.{≤ℚ_ratio, ≤ℚ_trans}
 use Rattle.sheet.specs.Accepted.{EntriesInRange}
 use Rattle.equation.specs.Equation.{value, tenths}
 use Rattle.equation.proofs.FigureNear as nearness
-use Rattle.equation.proofs.FigureNear.{Constants, ConstantsInRange, AllTemperatures, none, more, Accepted, bound, FigureNear}
+use Rattle.equation.proofs.FigureNear.{StationNumbers, StationNumbersInRange, AllTemperatures, none, more, Accepted, bound, FigureNear}
 use Rattle.equation.proofs.Nearness.{figure_near}
 use Rattle.day.specs.Judgement.{readings_of, entries_of, clear_of, with_mean, means_of, earlier_of, figure_of, holds, Answered, as_judged, with_mark, judged}
 use Rattle.day.specs.Bound.{if_present, means_present, inputs_of, Within, WithinBound, SignedConstants, FigureOwed, JudgesWithinBound}
@@ -46,14 +46,10 @@ same_means earlier =
 -- ---- an answered day: where none of the refusals holds, the numbers are what the sheet's nearness asks for
 
 -- what is taken of the station, and `d`
-abbrev pub constants_of : Station → Day → Constants
+abbrev pub constants_of : Station → Day → StationNumbers
 constants_of st day =
     record {
-      c1 = st.c1;
-      c2 = st.c2;
-      c3 = st.c3;
-      c4 = st.c4;
-      c5 = st.c5;
+      constants = record { c1 = st.c1; c2 = st.c2; c3 = st.c3; c4 = st.c4; c5 = st.c5 };
       minimum = pos st.minimum;
       limit = pos st.limit;
       d = pos day.d;
@@ -64,14 +60,10 @@ module _ (st : Station) (day : Day) (earlier : Earlier) (constants : SignedConst
   unfolding Answered
   none_holds r = answered r
 
-  constants_in : ConstantsInRange (constants_of st day)
+  constants_in : StationNumbersInRange (constants_of st day)
   constants_in =
       record {
-        c1 = constants.c1;
-        c2 = constants.c2;
-        c3 = constants.c3;
-        c4 = constants.c4;
-        c5 = constants.c5;
+        constants = record { c1 = constants.c1; c2 = constants.c2; c3 = constants.c3; c4 = constants.c4; c5 = constants.c5 };
         minimum = passed-tests.minimum_in st day earlier (none_holds StationField);
         limit = passed-tests.limit_in st day earlier (none_holds StationField);
         d = record {

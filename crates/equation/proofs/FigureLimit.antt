@@ -17,7 +17,7 @@ use Rattle.tables.specs.Series.{HalfUnit}
 use Rattle.sheet.specs.declared.Readings.{Readings}
 use Rattle.sheet.specs.declared.Entries.{Entries}
 use Rattle.equation.specs.Equation as equation
-use Rattle.equation.proofs.FigureNear.{Constants, Accepted, figure_of}
+use Rattle.equation.proofs.FigureNear.{StationNumbers, Accepted, figure_of}
 use Rattle.equation.specs.Equation.{tenths}
 use Rattle.equation.proofs.Units.{billionths}
 use Rattle.equation.proofs.Ends.{IsTemperature, temperature_ends}
@@ -38,7 +38,7 @@ vapour_root f between =
     (≤ℚ_trans (≤ℚ_ratio (152 over 10) (16 over 1) tt) (≤ℚ_eq (ring_ℚ 0 (16 # 1 := (400000000 # 1 :* 1 # 100000000) :^ 2) tt))))
 
 -- 80,001 ten-thousandths of an inch would be more than 8 inches and the error bound together
-pub figure_most : (r : Readings) (t : Entries) (fs : List ℤ) (c : Constants) → Accepted r t fs c → figure_of r t fs c ≤ 80_000
+pub figure_most : (r : Readings) (t : Entries) (fs : List ℤ) (c : StationNumbers) → Accepted r t fs c → figure_of r t fs c ≤ 80_000
 figure_most r t fs c accepted =
     let root = vapour_root r.dewpoint (temperature_ends accepted.readings.dewpoint) in
     whole_at_most 80_000 tt tt

@@ -14,30 +14,23 @@ use Rattle.numbers.specs.Rounding.{RootOf}
 use Rattle.tables.specs.Series.{HalfUnit}
 use Rattle.tables.specs.Tables.{billionth, tenth_pascal}
 use Rattle.sheet.specs.Quantities as quantities
-use Rattle.sheet.specs.Accepted.{ReadingsInRange, EntriesInRange}
+use Rattle.sheet.specs.Accepted.{ReadingsInRange, ConstantsInRange, EntriesInRange}
 use Rattle.sheet.specs.StepSheet as sheet
+use Rattle.sheet.specs.declared.Constants.{Constants}
 use Rattle.sheet.specs.declared.Readings.{Readings}
 use Rattle.sheet.specs.declared.Entries.{Entries}
 use Rattle.equation.specs.Equation.{tenths, Inputs, value}
 use Rattle.equation.specs.Equation as equation
 
 -- what is taken of the station, and `d`: c1 to c5 and the clear-day minimum, from which a clear day is worked, and the wind limit
-pub record Constants : Type 0 where
-  pub c1 : ℤ
-  pub c2 : ℤ
-  pub c3 : ℤ
-  pub c4 : ℤ
-  pub c5 : ℤ
+pub record StationNumbers : Type 0 where
+  pub constants : Constants
   pub minimum : ℤ
   pub limit : ℤ
   pub d : ℤ
 
-pub record ConstantsInRange (c : Constants) : Type 0 where
-  pub c1 : InRange quantities.signed_word c.c1
-  pub c2 : InRange quantities.signed_word c.c2
-  pub c3 : InRange quantities.signed_word c.c3
-  pub c4 : InRange quantities.signed_word c.c4
-  pub c5 : InRange quantities.signed_word c.c5
+pub record StationNumbersInRange (c : StationNumbers) : Type 0 where
+  pub constants : ConstantsInRange c.constants
   pub minimum : InRange quantities.clear_minimum c.minimum
   pub limit : InRange quantities.wind_limit c.limit
   pub d : InRange quantities.day_of_year c.d
@@ -48,26 +41,26 @@ pub data AllTemperatures : List ℤ → Type 0 where
   more : {f : ℤ} {fs : List ℤ} → InRange quantities.temperature f → AllTemperatures fs → AllTemperatures (f ∷ fs)
 
 -- the sheet's clear-day radiation, and its figure with the earlier means fs
-abbrev pub clear_day : Constants → ℤ
-clear_day c = sheet.Q c.minimum (sheet.clear_sum c.c1 c.c2 c.c3 c.c4 c.c5 c.d)
+abbrev pub clear_day : StationNumbers → ℤ
+clear_day c = sheet.Q c.minimum (sheet.clear_sum c.constants.c1 c.constants.c2 c.constants.c3 c.constants.c4 c.constants.c5 c.d)
 
-abbrev pub figure_of : Readings → Entries → List ℤ → Constants → ℕ
+abbrev pub figure_of : Readings → Entries → List ℤ → StationNumbers → ℕ
 figure_of x t fs c = nat_abs (sheet.figure x t (record { k = pos (length fs); z = sheet.sum_of fs }) (clear_day c) c.limit)
 
 -- What is asked of the numbers: each in its range, the readings in order, at most three earlier means, and refusal 10 does not hold
-pub record Accepted (x : Readings) (t : Entries) (fs : List ℤ) (c : Constants) : Type 0 where
+pub record Accepted (x : Readings) (t : Entries) (fs : List ℤ) (c : StationNumbers) : Type 0 where
   pub readings : ReadingsInRange x
   pub minimum_mean : x.minimum ≤ℤ x.mean
   pub dewpoint_maximum : x.dewpoint ≤ℤ x.maximum
   pub entries : EntriesInRange t
   pub means : AllTemperatures fs
   pub few : length fs ≤ 3
-  pub constants : ConstantsInRange c
+  pub constants : StationNumbersInRange c
   pub below : sheet.above_twice_clear x.radiation (clear_day c) ≡ false
 
 -- what the equation is fed: the readings in °F, cal and miles, the earlier means in °F, the constants in their units; what the entries stand for; and
 -- x
-abbrev pub inputs_of : Readings → List ℚ → Constants → ℚ → ℚ → ℚ → ℚ → ℚ → ℚ → Inputs
+abbrev pub inputs_of : Readings → List ℚ → StationNumbers → ℚ → ℚ → ℚ → ℚ → ℚ → ℚ → Inputs
 inputs_of r Fs c α a1 aw bw P x =
     record {
       d = from_ℤ c.d;
@@ -77,11 +70,11 @@ inputs_of r Fs c α a1 aw bw P x =
       dew_point = tenths r.dewpoint;
       radiation = tenths r.radiation;
       wind = tenths r.wind;
-      c1 = from_ℤ c.c1;
-      c2 = from_ℤ c.c2 *ℚ 1 /ℚ 1000;
-      c3 = from_ℤ c.c3 *ℚ 1 /ℚ 10000;
-      c4 = from_ℤ c.c4 *ℚ 1 /ℚ 1000000;
-      c5 = from_ℤ c.c5 *ℚ 1 /ℚ 1000000000;
+      c1 = from_ℤ c.constants.c1;
+      c2 = from_ℤ c.constants.c2 *ℚ 1 /ℚ 1000;
+      c3 = from_ℤ c.constants.c3 *ℚ 1 /ℚ 10000;
+      c4 = from_ℤ c.constants.c4 *ℚ 1 /ℚ 1000000;
+      c5 = from_ℤ c.constants.c5 *ℚ 1 /ℚ 1000000000;
       clear_minimum = from_ℤ c.minimum;
       wind_limit = tenths c.limit;
       earlier = Fs;
@@ -99,7 +92,7 @@ bound = 515 over 10000000
 
 -- What holds of every value that the equation can have: for all fractions within half a unit of the entries, ends included and all at once, and every x
 -- between two neighbouring multiples of 10⁻⁸ whose squares have the equation's own ea between them.
-abbrev pub OfEveryValue : Readings → Entries → List ℤ → Constants → (ℚ → Type 0) → Type 0
+abbrev pub OfEveryValue : Readings → Entries → List ℤ → StationNumbers → (ℚ → Type 0) → Type 0
 OfEveryValue r t fs c Holds =
     (α a1 aw bw P x : ℚ) →
     HalfUnit billionth (nat_abs t.albedo) α →
@@ -111,5 +104,5 @@ OfEveryValue r t fs c Holds =
     Holds (value (inputs_of r (map tenths fs) c α a1 aw bw P x))
 
 -- the figure is within the bound of it
-unfoldable pub FigureNear : Readings → Entries → List ℤ → Constants → Type 0
+unfoldable pub FigureNear : Readings → Entries → List ℤ → StationNumbers → Type 0
 FigureNear r t fs c = OfEveryValue r t fs c (λ v. abs_ℚ (from_ℤ (pos (figure_of r t fs c)) *ℚ 1 /ℚ 10000 -ℚ v) ≤ℚ fraction bound)

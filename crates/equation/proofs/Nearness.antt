@@ -20,7 +20,7 @@ use Rattle.sheet.specs.declared.Readings.{Readings}
 use Rattle.sheet.specs.declared.Entries.{Entries}
 use Rattle.equation.specs.Equation.{value}
 use Rattle.equation.specs.Equation as equation
-use Rattle.equation.proofs.FigureNear.{Constants, ConstantsInRange, Accepted, clear_day, figure_of, bound, OfEveryValue, FigureNear}
+use Rattle.equation.proofs.FigureNear.{StationNumbers, StationNumbersInRange, Accepted, clear_day, figure_of, bound, OfEveryValue, FigureNear}
 use Rattle.equation.proofs.Units.{billionths}
 use Rattle.equation.proofs.Ends.{Between, IsTemperature, from_ends, minus_ends, temperature_ends, limit_ends}
 use Rattle.equation.proofs.TemperatureBound.{e_rounded, e_low}
@@ -34,10 +34,10 @@ latent_in : {m : ℤ} → InRange quantities.temperature m → InRange quantitie
 unfolding sheet.M
 latent_in p = meaning_in (p and none) (lit 15006000 -ᵐ lit 787 *ᵐ (arg 0 -ᵐ lit 320)) quantities.latent_heat tt
 
-clear_sum_in : (c : Constants) → ConstantsInRange c → InRange quantities.clear_sum (sheet.clear_sum c.c1 c.c2 c.c3 c.c4 c.c5 c.d)
+clear_sum_in : (c : StationNumbers) → StationNumbersInRange c → InRange quantities.clear_sum (sheet.clear_sum c.constants.c1 c.constants.c2 c.constants.c3 c.constants.c4 c.constants.c5 c.d)
 unfolding sheet.clear_sum
 clear_sum_in c h =
-    meaning_in (h.c1 and h.c2 and h.c3 and h.c4 and h.c5 and h.d and none)
+    meaning_in (h.constants.c1 and h.constants.c2 and h.constants.c3 and h.constants.c4 and h.constants.c5 and h.d and none)
     (lit 1000000000 *ᵐ arg 0
     +ᵐ lit 1000000 *ᵐ arg 1 *ᵐ arg 5
     +ᵐ lit 100000 *ᵐ arg 2 *ᵐ arg 5 *ᵐ arg 5
@@ -71,13 +71,13 @@ root_of f between =
 
 -- ---- the clear day
 
-module _ (c : Constants) (h : ConstantsInRange c) where
+module _ (c : StationNumbers) (h : StationNumbersInRange c) where
   abbrev C : ℚ
   C =
-      equation.C (from_ℤ c.c1) (from_ℤ c.c2 *ℚ 1 /ℚ 1000) (from_ℤ c.c3 *ℚ 1 /ℚ 10000) (from_ℤ c.c4 *ℚ 1 /ℚ 1000000)
-      (from_ℤ c.c5 *ℚ 1 /ℚ 1000000000) (from_ℤ c.minimum) (from_ℤ c.d)
+      equation.C (from_ℤ c.constants.c1) (from_ℤ c.constants.c2 *ℚ 1 /ℚ 1000) (from_ℤ c.constants.c3 *ℚ 1 /ℚ 10000) (from_ℤ c.constants.c4 *ℚ 1 /ℚ 1000000)
+      (from_ℤ c.constants.c5 *ℚ 1 /ℚ 1000000000) (from_ℤ c.minimum) (from_ℤ c.d)
 
-  sum_ends : Between (negsuc 2999999999999999) (pos 3000000000000000) (sheet.clear_sum c.c1 c.c2 c.c3 c.c4 c.c5 c.d)
+  sum_ends : Between (negsuc 2999999999999999) (pos 3000000000000000) (sheet.clear_sum c.constants.c1 c.constants.c2 c.constants.c3 c.constants.c4 c.constants.c5 c.d)
   sum_ends = minus_ends 3000000000000000 3000000000000000 (clear_sum_in c h)
 
   minimum_ends : Between (pos 50) (pos 200) c.minimum
@@ -85,14 +85,14 @@ module _ (c : Constants) (h : ConstantsInRange c) where
 
   clear_rounded : Rounded (clear_day c) billionths C (3000000 over 1) (0 over 1)
   clear_rounded =
-      Q_rounded c.c1 c.c2 c.c3 c.c4 c.c5 c.d c.minimum sum_ends.low sum_ends.high minimum_ends.low minimum_ends.high
+      Q_rounded c.constants.c1 c.constants.c2 c.constants.c3 c.constants.c4 c.constants.c5 c.d c.minimum sum_ends.low sum_ends.high minimum_ends.low minimum_ends.high
 
   clear_low : 50 /ℚ 1 ≤ℚ C
-  clear_low = C_low c.c1 c.c2 c.c3 c.c4 c.c5 c.d c.minimum sum_ends.low sum_ends.high minimum_ends.low minimum_ends.high
+  clear_low = C_low c.constants.c1 c.constants.c2 c.constants.c3 c.constants.c4 c.constants.c5 c.d c.minimum sum_ends.low sum_ends.high minimum_ends.low minimum_ends.high
 
 -- ---- the figure against the equation
 
-module _ (r : Readings) (t : Entries) (fs : List ℤ) (c : Constants) (accepted : Accepted r t fs c) where
+module _ (r : Readings) (t : Entries) (fs : List ℤ) (c : StationNumbers) (accepted : Accepted r t fs c) where
   radiation_ends : Between (pos 0) (pos 12000) r.radiation
   radiation_ends = from_ends 0 12000 accepted.readings.radiation
 
