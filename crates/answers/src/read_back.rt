@@ -31,7 +31,9 @@ fn day_at(answers: &[u8], at: usize, verdict: Verdict) -> Answer
     }
 }
 
-// The one answer whose bytes stand at an offset.
+// The one answer whose bytes stand at an offset. It is inlined into each walk: where it is called, the answer goes through memory, and is read there in
+// other pieces than it was written in, for which the processor waits.
+#[inline(always)]
 pub fn answer_at(answers: &[u8], at: usize) -> Answer
     requires { (a : Answered) × StandsAt answers.now at a }
     ensures { (a : Answered) → StandsAt answers.now at a → result ≡ a }

@@ -13,6 +13,8 @@ pub struct Pen<'a> {
 }
 
 impl Pen<'_> {
+    // Inlined, so that each copy's length is known where it is made: else it would be a call of C's `memcpy`.
+    #[inline(always)]
     pub(crate) fn put_bytes(&mut self, bytes: &[u8])
         requires { Fits self.old bytes.now }
         ensures { Wrote self.old bytes.now self.new }

@@ -19,7 +19,9 @@ pub(crate) struct Block {
     pub from: usize,
 }
 
-// What is about the block whose answers are the last of these.
+// What is about the block whose answers are the last of these. Inlined: where it is called, the block that is open is kept in memory, and read there at
+// each answer.
+#[inline(always)]
 fn put_about<P: Page>(answers: Answers<'_>, block: Option<Block>, page: &mut P)
     requires { (seen : List Answered) × StandsAll answers.bytes.now block seen × P.Room page.old (about_open block seen) }
     ensures { (seen : List Answered) → StandsAll answers.entry.bytes.now block seen → P.Laid page.old (about_open block seen) page.new }

@@ -43,6 +43,8 @@ impl Iterator for Each<'_> {
 
     ghost remaining = { λ s. at_most (length s.answers.now - s.at) };
 
+    // Inlined, as `answer_at` is.
+    #[inline(always)]
     fn next(&mut self) -> Option<(usize, Answer)> {
         let at = self.at;
         if at == self.answers.len() {

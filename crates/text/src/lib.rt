@@ -15,9 +15,9 @@ ghost use Rattle.lines.specs.Written.{Written, AtFront};
 use crate::answer_walk::put_lines;
 use crate::each::Answers;
 use crate::page::{Count, Page};
-use lines::alone;
 use lines::pen::Pen;
 use lines::whole::{Header, RefusedLine};
+use lines::{Line, alone};
 use promises::read_log;
 use station_log::Refused;
 
@@ -38,7 +38,17 @@ pub const LONGEST_ANSWERS: usize = 69_341;
 
 pub const LONGEST_REPORT: usize = 223_457;
 
-// A refused log's line.
+// Writes a refused log's line from the front of a text.
+fn write_refused(line: RefusedLine, text: &mut [u8]) -> usize
+    requires { length (refused_line line.number line.value) ≤ length text.old }
+    ensures { Written text.old 0 (refused_line line.number line.value) text.new result }
+{
+    let mut pen = Pen { text, at: 0 };
+    line.put(&mut pen);
+    pen.at
+}
+
+// A refused log's line. It is counted first, as answers are.
 fn print_refused(refused: Refused, text: &mut [u8]) -> Result<usize, TooShort>
     ensures { Prints (refused_line (number_of_fault refused.why) refused.place) text.old result text.new }
 {
@@ -46,13 +56,11 @@ fn print_refused(refused: Refused, text: &mut [u8]) -> Result<usize, TooShort>
         number: u8::from(refused.why),
         value: refused.place,
     };
-    let mut own = [0; 64];
-    let needed = alone(line, &mut own);
+    let needed = alone(line, &mut [0; 64]);
     if text.len() < needed {
         return Err(TooShort { needed });
     }
-    text[..needed].copy_from_slice(&own[..needed]);
-    Ok(needed)
+    Ok(write_refused(line, text))
 }
 
 // The header and the lines of the answers whose bytes these are.

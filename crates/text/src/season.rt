@@ -11,7 +11,9 @@ use day::Code;
 use lines::whole::{MonthLine, SeasonLine};
 use totals::tally::{Counted, Tally, counted_of};
 
-// The line of the month that is open, if it had an answered day.
+// The line of the month that is open, if it had an answered day. Inlined: where it is called, the totals are kept in memory, and written there at each
+// answer.
+#[inline(always)]
 fn put_month<P: Page>(code: Code, tally: Tally, page: &mut P)
     requires { P.Room page.old (month_text code tally.year tally.month tally.total) }
     ensures { P.Laid page.old (month_text code tally.year tally.month tally.total) page.new }

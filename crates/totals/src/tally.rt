@@ -32,7 +32,8 @@ pub struct Tally {
     pub season: Total,
 }
 
-// What an answer adds. Days of kinds 3 and 9 count.
+// What an answer adds. Days of kinds 3 and 9 count. It is inlined, as what reads the answer is: where it is called, the answer goes through memory.
+#[inline(always)]
 pub fn counted_of(a: Answer) -> Option<Counted>
     ensures { result ≡ counted_of a }
 {
