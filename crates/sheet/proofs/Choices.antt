@@ -27,6 +27,10 @@ pub is_above : {a b : ℕ} {z : ℤ} → InRange (from a to b) z → (of_z w64 z
 is_above {z = pos n} p e = omega arith
 is_above {z = negsuc n} p e = absurd p.bounds
 
+pub is_only : {a : ℕ} {z : ℤ} → InRange (from a to a) z → z ≡ pos a
+is_only {a} {z = pos n} p = let e : n ≡ a = omega (arith, p.bounds.0, p.bounds.1) in ap pos e
+is_only {z = negsuc n} p = absurd p.bounds
+
 pub positive_in : {a b : ℕ} {z : ℤ} → InRange (minus a to b) z → le_z z (pos 0) ≡ false → InRange (from 1 to b) z
 positive_in {z = pos n} p e = omega (arith, leb-false n 0 e)
 positive_in {z = negsuc n} p e = let q : ◌≡◌ {A = ℕ} 0 1 = cc in absurd (omega arith)
