@@ -24,7 +24,8 @@ pub fn read(files: &Files, specs: &Specs) -> Vec<Contract> {
         // What an impl of a trait says of its functions before them: its ghost members.
         let mut given = BTreeSet::new();
         for line in text.lines() {
-            let words = words(line);
+            let plain = line.trim_start();
+            let words = words(plain.strip_prefix("pub(crate) ").unwrap_or(plain));
             match words[..] {
                 ["ghost", "use", ..] => scope.take(line),
                 ["fn", name, ..] | [_, "fn", name, ..] | [_, _, _, "fn", name, ..] => {
@@ -129,6 +130,11 @@ impl From<Day> for u64 {
     }
 }
 
+pub(crate) fn of_the_crate() -> u64
+    ensures { result ≡ rules.number }
+{
+}
+
 fn behind() {}
 ";
 
@@ -153,6 +159,7 @@ fn behind() {}
             ("day::judge::judge", "judged", "judgedAsked"),
             ("day::judge::exported", "number", "Askednumber"),
             ("day::judge::from", "number", "number"),
+            ("day::judge::of_the_crate", "number", "number"),
             ("day::judge::behind", "", ""),
             ("day::plain", "", ""),
         ];
